@@ -1,4 +1,4 @@
--- The bag of members, member by member.
+-- The bag of members, one member at a time.
 use Rattle.std.proofs.Common.{◌≡◌, ◌+◌, ◌<◌, ◌≤◌, ◌^◌, List, [], ◌∷◌, Option, Some, None, MatchOption, length, refl, sym, ap, subst, ◌∙◌, inl, inr, arith, length-append}
 use Rattle.der_core.specs.DerElement.{DerElement, DerElements, Nil, Cons, Primitive, Constructed, listed, kids_of}
 use Rattle.der_core.specs.Encoding.{encoding, encodings, IsDer}
@@ -12,7 +12,7 @@ use Rattle.authenticode_core.specs.CertificateBag.{IsMember, IsBag}
 use Rattle.authenticode_core.specs.LeftMembers.{left_members}
 use Rattle.authenticode_core.proofs.OneCertificate.{one_certificate}
 
--- ---- a member that is passed over
+-- ---- a skipped member
 
 pub no_member : (member : DerElement) → ((c : Certificate) → IsCertificate member c → ⊥) → (c : CertificateElements) → IsMember member c → ⊥
 no_member member refused c m = refused m.fits.0 (record { elements = c; is = m.is; spelled = m.fits.1 })
@@ -43,7 +43,7 @@ pub begins : (members left : List DerElement) (member : DerElement) (c : Certifi
     → (others : List CertificateElements) → IsBag left others → IsBag members (c ∷ others)
 begins members left member c e m others p = subst (λ (ms : List DerElement). IsBag ms (c ∷ others)) (sym e) (inr (c, others, refl, m, p))
 
--- ---- members have one bag
+-- ---- members have at most one bag
 
 bags_of : (members : List DerElement) (a b : List CertificateElements) → IsBag members a → IsBag members b → a ≡ b
 bags_of [] a b p q = p ∙ sym q
@@ -55,7 +55,7 @@ bags_of (member ∷ members) a b (inr p) q =
 pub one_bag : (members : List DerElement) (a b : List CertificateElements) → IsBag members a → IsBag members b → a ≡ b
 one_bag = bags_of
 
--- ---- how many members there are
+-- ---- the number of members
 
 count_within : (kids : DerElements) → length (listed kids) ≤ length (encodings kids)
 count_within Nil = omega arith

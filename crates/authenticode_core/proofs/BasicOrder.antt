@@ -1,4 +1,5 @@
--- The rules of basic validation: what meets them, that each is told once, that none tells of want of memory before memory is asked for, and which is broken first.
+-- The rules of basic validation: what meets them, that each is reported by one error, that none
+-- before an allocation reports out of memory, and which is broken first.
 use Rattle.std.proofs.Common.{◌≡◌, ◌⊎◌, ℕ, List, [], ◌∷◌, Option, Some, None, Result, Ok, Err, MatchResult, inl, inr, refl, sym, ap, subst, ◌∙◌}
 use Rattle.cms_types.specs.SignedDataElements.{SignedDataElements}
 use Rattle.cms_types.specs.SignerElements.{SignerElements}
@@ -21,7 +22,7 @@ use Rattle.authenticode_core.proofs.FormFields.{indirect_once, signer_once}
 use Rattle.authenticode_core.proofs.FormOrder.{file_told, form_met, form_tells_no_memory, form_told}
 use Rattle.authenticode_core.proofs.OneSigning.{one_signing_refusal, place_once, signed_breaks_no_rule}
 
--- ---- the parts behind the form
+-- ---- the parts after the form
 
 file_met : (f : SignedDataElements) (d : IndirectData) (file_hash : List ℕ) → HasIndirectData f d → d.digest ≡ file_hash → IsMet (FileDiffers f file_hash)
 file_met f d file_hash has binds e broken = broken.2 (ap (λ (x : IndirectData). x.digest) (indirect_once f broken.0 d broken.1 has) ∙ binds)
@@ -70,7 +71,7 @@ part_met judge f file_hash place v = λ e p.
     (subst (λ (x : SignerElements). IsFirstBroken (FileDiffers f file_hash ∷ signing_rules judge f v.d x) e) g
     (subst (λ (x : IndirectData). IsFirstBroken (FileDiffers f file_hash ∷ signing_rules judge f x p.1) e) d p.4))
 
--- ---- the digest that is given
+-- ---- the given digest
 
 same_hash : (given : Option (List ℕ)) (a b : List ℕ) → given ≡ Some a → given ≡ Some b → a ≡ b
 same_hash given a b p q =
@@ -109,7 +110,7 @@ module _ (f : SignedDataElements) (given : Option (List ℕ)) where
   pub shape_unbroken : (algorithm : DerElement) (d : IndirectData) (g : SignerElements) (hash : List ℕ) (e : AuthenticodeError) → HasForm f algorithm d g → given ≡ Some hash → IsFirstBroken (shape_rules f given) e → ⊥
   shape_unbroken algorithm d g hash e form is broken = none_broken (shape_rules f given) (shape_met algorithm d g hash form is) e broken
 
-  -- a refusal at which the rules are broken is the one that they tell
+  -- the refusal by a broken rule is the one that it reports
   pub refused_so : {A : Type 0} (r : Result A AuthenticodeError) (e : AuthenticodeError) → r ≡ Err e → IsFirstBroken (shape_rules f given) e → (x : AuthenticodeError) → IsFirstBroken (shape_rules f given) x → r ≡ Err x
   refused_so r e is broken x other = is ∙ ap Err (one_broken (shape_rules f given) shape_told e x broken other)
 
@@ -128,7 +129,7 @@ module _ (f : SignedDataElements) (given : Option (List ℕ)) where
     pub basic_told : AreToldOnce (basic_rules judge f given)
     basic_told = told_together (shape_rules f given) (IsRefusedFor judge f given ∷ []) shape_told (for_told, tt)
 
-    -- there is one place
+    -- there is one index
     pub one_vouched_place : (p q : ℕ) → IsVouchedAt judge given f p → IsVouchedAt judge given f q → p ≡ q
     one_vouched_place p q a b = one_place judge f b.0 p q (subst (λ (hash : List ℕ). VouchesFor judge f hash p) (same_hash given a.0 b.0 a.1 b.1) a.2) b.2
 

@@ -1,4 +1,4 @@
--- The first attribute of an identifier: found here, found later, and found once.
+-- The first attribute with an OID: found here, found later, and found once.
 use Rattle.std.proofs.Common.{◌≡◌, ℕ, List, [], ◌∷◌, ◌++◌, Option, Some, None, MatchOption, sym, ap, subst, ◌∙◌}
 use Rattle.asn1_types.specs.declared.oids.TheConstants.{MESSAGE_DIGEST}
 use Rattle.cms_types.specs.SignerElements.{SignerElements}
@@ -18,7 +18,7 @@ rows_of a b v w e = cc
 pub attribute_once : (oid : List ℕ) (element : DerElement) (v w : List DerElement) → IsAttributeOf oid element v → IsAttributeOf oid element w → v ≡ w
 attribute_once oid element v w p q = same_values v w (rows_of (Primitive 0x06 oid) (Primitive 0x06 oid) v w (sym p ∙ q))
 
--- ---- the first of an identifier
+-- ---- the first with an OID
 
 pub attribute_here : (oid : List ℕ) (all rest : List DerElement) (kid : DerElement) (values : List DerElement) → all ≡ kid ∷ rest → IsAttributeOf oid kid values → IsFirstAttribute oid all values
 attribute_here oid all rest kid values are named = record { before = []; attribute = kid; after = rest; are = are; first = tt; named = named }
@@ -80,7 +80,7 @@ first_octets s t x y e = cc
 pub message_digest_once : (g : SignerElements) (s t : List ℕ) → HasMessageDigest g s → HasMessageDigest g t → s ≡ t
 message_digest_once g s t p q = first_octets s t p.others q.others (first_once MESSAGE_DIGEST.now (signed_attributes_of g) (octet_string s ∷ p.others) (octet_string t ∷ q.others) p.first q.first)
 
--- no first message digest, so none that has a value
+-- no first message digest, so none with a value
 pub no_first : (g : SignerElements) (kids : List DerElement) → signed_attributes_of g ≡ kids → ((values : List DerElement) → IsFirstAttribute MESSAGE_DIGEST.now kids values → ⊥) → (digest : List ℕ) → HasMessageDigest g digest → ⊥
 no_first g kids are none digest has = none (octet_string digest ∷ has.others) (subst (λ (ks : List DerElement). IsFirstAttribute MESSAGE_DIGEST.now ks (octet_string digest ∷ has.others)) are has.first)
 
@@ -98,13 +98,13 @@ has_digest g kids values others first digest are is values_are first_is = record
       (subst (λ (vs : List DerElement). IsFirstAttribute MESSAGE_DIGEST.now kids vs) (values_are ∙ ap (λ (x : DerElement). x ∷ others) first_is) is);
 }
 
--- where there is no value there is no message digest
+-- without a value there is no message digest
 pub no_value : (g : SignerElements) (kids values : List DerElement) → signed_attributes_of g ≡ kids → IsFirstAttribute MESSAGE_DIGEST.now kids values → values ≡ [] → (digest : List ℕ) → HasMessageDigest g digest → ⊥
 no_value g kids values are first none digest has =
     let both : [] ≡ octet_string digest ∷ has.others = sym none ∙ its_digest g kids values are first digest has in
     absurd cc
 
--- what is found or not of the first value is so of the message digest
+-- what is found or not found of the first value is so of the message digest
 pub digest_or_none : {K : Type 0} (now : K → List ℕ) (r : Option K) (g : SignerElements) (kids values others : List DerElement) (first : DerElement) → signed_attributes_of g ≡ kids → IsFirstAttribute MESSAGE_DIGEST.now kids values → values ≡ first ∷ others
     → MatchOption r ((content : List ℕ) → first ≡ octet_string content → ⊥) (λ k. first ≡ octet_string (now k)) → MatchOption r ((digest : List ℕ) → HasMessageDigest g digest → ⊥) (λ k. HasMessageDigest g (now k))
 digest_or_none now None g kids values others first are is values_are none = λ digest has.

@@ -1,4 +1,4 @@
--- The fields of signed data, each once.
+-- The fields of signed data, which are unique.
 use Rattle.std.proofs.Common.{◌≡◌, ℕ, List, [], ◌∷◌, Option, Some, None, refl, sym, ap, ◌∙◌}
 use Rattle.std.specs.Prelude.{map}
 use Rattle.std.specs.Option.{option_map}
@@ -56,7 +56,7 @@ same_fields_of a b e = same_data (signed_data_elements a) (signed_data_elements 
 pub members_are_listed : (tag : ℕ) (kids : List DerElement) → members_of (Some (Constructed tag (row kids))) ≡ kids
 members_are_listed tag kids = listed-row kids
 
--- the first of the signers is that of a value
+-- the first signer is that of a value
 pub signer_is_spelled : (f : SignedDataElements) (first : DerElement) (others : List DerElement) → AreSpelled f → signers_of f ≡ first ∷ others → (value : SignerInfo) × (first ≡ signer_info value)
 signer_is_spelled f first others (v, is) e =
     head_of v.signers_infos (sym (members_are_listed 0x31 (map signer_info v.signers_infos)) ∙ sym (ap signers_of is) ∙ e) where
@@ -66,7 +66,7 @@ signer_is_spelled f first others (v, is) e =
 
 -- ---- the content
 
--- a content of the type is what is signed in the place of a file
+-- a content of the type is indirect data
 indirect_value : (content : ContentValue) → kind_of_content content ≡ kinds.IndirectData → (d : IndirectData) × (content_value content ≡ sequence (indirect_kids d))
 indirect_value (contents.SpcIndirectDataContent c) kind =
     (record { image = spc_attribute c.image; algorithm = algorithm_identifier c.message_digest.oid; digest = c.message_digest.digest }, refl)
@@ -94,13 +94,13 @@ indirect_is_spelled f content_type content (v, is) has named =
     let kind : named_content (identifier_contents info.content_type) ≡ kinds.IndirectData = ap named_content oid in
     indirect_option (named_content (identifier_contents info.content_type)) info.content content info.fits kind parts.1
 
--- the type and the content, each found by itself
+-- the type and the content, each found on its own
 pub content_is : (f : SignedDataElements) (content_type : List ℕ) (other : DerElement) (content found : Option DerElement) → f.content_info ≡ content_info_of (Primitive 0x06 content_type) content → f.content_info ≡ content_info_of other found
     → HasSignedContent f content_type found
 content_is f content_type other content found p q =
     p ∙ ap (content_info_of (Primitive 0x06 content_type)) (fields_once (Primitive 0x06 content_type) other content found (sym p ∙ q)).1
 
--- ---- each field once
+-- ---- each field is unique
 
 pub version_once : (f : SignedDataElements) (a b : ℕ) → HasVersion f a → HasVersion f b → a ≡ b
 version_once f a b p q =

@@ -1,4 +1,4 @@
--- The rules of the form: what meets them, and that each is told once.
+-- The rules of the form: what meets them, and that each is reported by one error.
 use Rattle.std.proofs.Common.{◌≡◌, ℕ, List, [], ◌∷◌, Some, None, length, sym, ap, subst, ◌∙◌}
 use Rattle.asn1_types.specs.declared.oids.TheConstants.{SPC_INDIRECT_DATA}
 use Rattle.cms_types.specs.SignedDataElements.{SignedDataElements}
@@ -74,7 +74,7 @@ module _ (f : SignedDataElements) where
       let content : AreMet (LacksContent f ∷ HasOtherContent f ∷ ContentDiffers f ∷ SignerDiffers f ∷ []) = (content_met d form.indirect, (indirect_met d form.indirect, same)) in
       (version_met form.version, (signers_met form.one_signer, (algorithms_met form.one_algorithm, content)))
 
-  -- ---- each is told once
+  -- ---- each is reported by one error
 
   version_told : IsToldOnce (IsOfOtherVersion f)
   version_told a b p q = p.3 ∙ ap (errors.IncorrectVersion 1) (version_once f p.0 q.0 p.1 q.1) ∙ sym q.3
@@ -88,7 +88,7 @@ module _ (f : SignedDataElements) where
       let content : AreToldOnce (LacksContent f ∷ HasOtherContent f ∷ ContentDiffers f ∷ SignerDiffers f ∷ []) = ((λ a b p q. p.2 ∙ sym q.2), ((λ a b p q. p.4 ∙ sym q.4), same)) in
       (version_told, ((λ a b p q. p.1 ∙ sym q.1), ((λ a b p q. p.1 ∙ sym q.1), content)))
 
-  -- ---- want of memory is never told
+  -- ---- out of memory is never reported
 
   pub form_tells_no_memory : NoneTells (form_rules f) errors.Memory
   form_tells_no_memory =

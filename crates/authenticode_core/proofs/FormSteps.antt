@@ -112,7 +112,7 @@ no_other_content f content_type other element found spelled p q named none =
     let d = indirect_is_spelled f content_type element spelled (content_is f content_type other found (Some element) p q) named in
     none d.0 d.1
 
--- ---- all of them, in their order
+-- ---- all of them, in order
 
 module _ (f : SignedDataElements) where
   pub broken_1 : (e : AuthenticodeError) → IsOfOtherVersion f e → IsFirstBroken (form_rules f) e

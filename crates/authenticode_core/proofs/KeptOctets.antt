@@ -1,4 +1,4 @@
--- What is read of the octets of an element has the fields that lie there.
+-- The value read from the octets of an element has the fields in them.
 use Rattle.std.proofs.Common.{◌≡◌, ◌∙◌}
 use Rattle.der_core.specs.Facts.Fronts.{formed_encoding_once}
 use Rattle.der_core.specs.declared.elem.Elem.{Elem}

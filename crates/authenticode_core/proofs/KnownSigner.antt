@@ -1,4 +1,4 @@
--- The certificate of the first signer where its place is known.
+-- The certificate of the first signer, if its index is known.
 use Rattle.std.proofs.Common.{◌≡◌, ◌≢◌, ◌↔◌, ℕ, List, Option, Some, sym, subst, ◌∙◌}
 use Rattle.std.specs.Prelude.{IfSome}
 use Rattle.cms_types.specs.SignedDataElements.{SignedDataElements}
@@ -24,7 +24,7 @@ pub some_known : (f : SignedDataElements) (known : Option ℕ) (place : ℕ) →
 some_known f known place is has = subst (λ (k : Option ℕ). IfSome k (HasSignerAt f)) is has
 
 module _ (f : SignedDataElements) (g : SignerElements) (place : ℕ) (first : IsFirstSigner f g) (has : HasSignerAt f place) where
-  -- the signer names its certificate by issuer and serial number
+  -- the signer identifies its certificate by issuer and serial number
   pub named_by_name : ((value : IssuerAndSerialNumber) → g.sid ≢ issuer_and_serial_number value) → ⊥
   named_by_name none = named_is_met f g has.1.0 place has.0 first has.1.2 errors.IncorrectSignerIdentifier (is_named_by_key f g first none)
 
@@ -32,11 +32,11 @@ module _ (f : SignedDataElements) (g : SignerElements) (place : ℕ) (first : Is
     same : (c : CertificateElements) → IsNamedBy issuer serial_number c ↔ IsNamedByFirst (signers_of f) c
     same = named_or_not f g issuer serial_number first lent
 
-    -- some certificate is named so
+    -- some certificate has these
     pub some_named : HasNoPlace has.1.0 (IsNamedBy issuer serial_number) 0 → ⊥
     some_named none = none place has.0 has.1.2.later has.1.2.stands ((same has.0).1 has.1.2.fits)
 
-    -- the first one that is named so stands there
+    -- the first one with these is at the index
     pub stands_known : (c : CertificateElements) (told : ℕ) → told ≡ place → IsFirstOfName has.1.0 issuer serial_number c → HasSigner f told c
     stands_known c told at found =
         let there = least_as has.1.0 (IsNamedBy issuer serial_number) (IsNamedByFirst (signers_of f)) found.0 c same found.1 in

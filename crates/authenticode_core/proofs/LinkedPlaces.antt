@@ -1,4 +1,4 @@
--- The certificates at the places of a bag, linked one after another.
+-- The certificates at the indices of a bag, linked one after another.
 use Rattle.std.proofs.Common.{◌≡◌, ◌⊎◌, ◌+◌, ◌-◌, ◌^◌, ℕ, List, [], ◌∷◌, ◌++◌, length, min, Option, Some, None, Result, Ok, Err, MatchResult, append_assoc, inl, inr, sym, ap, subst, ◌∙◌, arith}
 use Rattle.std.specs.Prelude.{unwrap_or}
 use Rattle.std.proofs.lemmas.List.{append-nil}
@@ -23,12 +23,12 @@ use Rattle.authenticode_core.specs.Places.{StandsAt}
 use Rattle.authenticode_core.specs.declared.path.Linking.{Linking}
 use Rattle.authenticode_core.specs.declared.path.others.Others.{Others}
 
--- want of memory may be told whatever else may be
+-- out of memory may be reported whatever else may be
 pub out_of_memory : {A : Type 0} (Good : A → Type 0) (Bad : CertError → Type 0) (r : Result A CertError) (e : CertError) → r ≡ Err e → e ≡ errors.Memory
     → MatchResult r Good (λ x. Bad x ⊎ (x ≡ errors.Memory))
 out_of_memory {A} Good Bad r e is memory = subst (λ (x : Result A CertError). MatchResult x Good (λ x. Bad x ⊎ (x ≡ errors.Memory))) (sym is) (inr memory)
 
--- What is found so far is linked, and the others of the places are left.
+-- What is found so far is linked, and the others of the indices are left.
 pub record Linked (judge : Judge) (w : Window) (bag : List CertificateElements) (checked : KeptCertificate) (all : List ℕ) (parents : Others) (linking : Linking) : Type 0 where
   pub so_far : IsLinkedSoFar judge w bag checked linking
   pub rest : List ℕ

@@ -1,4 +1,4 @@
--- The certificate that the first signer names, or none.
+-- The certificate that the first signer identifies, or none.
 use Rattle.std.proofs.Common.{◌≡◌, ◌≢◌, ◌⊎◌, ℕ, List, [], ◌∷◌, inl, inr, refl, sym, ap, subst, ◌∙◌}
 use Rattle.asn1_types.specs.Elements.{integer}
 use Rattle.asn1_types.specs.Values.{integer_contents}
@@ -29,7 +29,7 @@ use Rattle.authenticode_core.specs.SigningRules.{HasNoCertificate, IsBagOf, IsNa
 use Rattle.authenticode_core.specs.declared.error.AuthenticodeError.{AuthenticodeError}
 use Rattle.authenticode_core.specs.declared.error.AuthenticodeError.TheVariants as errors
 
--- ---- how the first signer names its certificate
+-- ---- how the first signer identifies its certificate
 
 pub sid_is : (f : SignedDataElements) (g : SignerElements) → (first : IsFirstSigner f g) → g.sid ≡ signer_identifier first.value.sid
 sid_is f g first = ap (λ (x : SignerElements). x.sid) first.is
@@ -56,7 +56,7 @@ by_name element kids (named.SubjectKeyIdentifier octets) is lent = absurd (key_o
 heads : (x y s t : DerElement) → sequence (x ∷ s ∷ []) ≡ sequence (y ∷ t ∷ []) → x ≡ y
 heads x y s t e = cc
 
--- the name that is lent is the one that is made of its octets
+-- the borrowed name is the one that is made of its octets
 same_name : (element lent : DerElement) (issuer serial_number : List ℕ) (made : DirectoryName) (value : IssuerAndSerialNumber) → element ≡ issuer_and_serial_number value → element ≡ sequence (lent ∷ Primitive 0x02 serial_number ∷ [])
     → issuer ≡ encoding lent → issuer ≡ encoding (name made.name) → lent ≡ name made.name
 same_name element lent issuer serial_number made value is holds octets told =
@@ -97,6 +97,6 @@ no_certificate f g bag issuer serial_number e first is none lent (inr memory) = 
 
 -- ---- the bag
 
--- a bag of the members that a cursor stands before is that of the signed data
+-- a bag of the members before a cursor is that of the signed data
 pub bag_of : (f : SignedDataElements) (left : List DerElement) (bag : List CertificateElements) → left ≡ members_of f.certificates → IsBag left bag → IsBagOf f bag
 bag_of f left bag same is = subst (λ (members : List DerElement). IsBag members bag) same is

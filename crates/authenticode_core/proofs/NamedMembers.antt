@@ -28,7 +28,8 @@ use Rattle.authenticode_core.proofs.WalkSteps.{least_once}
 use Rattle.authenticode_core.proofs.SignerSteps.{heads, same_sid, two, contents}
 use Rattle.authenticode_core.proofs.NamedCertificates.{sid_is}
 
--- The members that are left have the end of the bag, and the rule holds of no certificate before it.
+-- The members that are left have the end of the bag, and the rule holds for no certificate before
+-- it.
 pub record Unnamed (left : List DerElement) (bag : List CertificateElements) (holds : CertificateElements → Type 0) : Type 0 where
   pub before : List CertificateElements
   pub behind : List CertificateElements
@@ -80,7 +81,7 @@ unnamed_all left bag holds e u =
     let none : u.behind ≡ [] = subst (λ (ms : List DerElement). IsBag ms u.behind) e u.others in
     none_behind bag holds 0 (length u.before) u.none (omega (arith, ap length u.are, length-append u.before u.behind, ap length none))
 
--- ---- named by the first signer
+-- ---- identified by the first signer
 
 named_there : (f : SignedDataElements) (g : SignerElements) (issuer serial_number : List ℕ) (c : CertificateElements) (first : IsFirstSigner f g) → LendsNamed g.sid issuer serial_number → IsNamedBy issuer serial_number c
     → (sid : SignerIdentifier) → first.value.sid ≡ sid → IsNamedByFirst (signers_of f) c
@@ -111,7 +112,7 @@ pub named_or_not : (f : SignedDataElements) (g : SignerElements) (issuer serial_
 named_or_not f g issuer serial_number first lent c =
     (λ by. named_there f g issuer serial_number c first lent by first.value.sid refl, λ n. named_back f g issuer serial_number c first lent n)
 
--- ---- a rule that holds where another does
+-- ---- a rule that holds if another one does
 
 pub least_as : (bag : List CertificateElements) (by holds : CertificateElements → Type 0) (place : ℕ) (c : CertificateElements) → ((d : CertificateElements) → by d ↔ holds d) → IsLeastPlace bag by 0 place c → IsLeastPlace bag holds 0 place c
 least_as bag by holds place c same l =

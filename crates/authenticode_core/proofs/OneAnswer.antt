@@ -1,4 +1,4 @@
--- Each cause has one answer.
+-- Each cause has one result.
 use Rattle.std.proofs.Common.{◌≡◌, ◌⊎◌, ℕ, List, ◌++◌, Bool, length, drop, Result, Ok, Err, true, false, inl, inr, refl, sym, ◌∙◌, ap, subst}
 use Rattle.std.specs.Prelude.{replicate}
 use Rattle.std.proofs.lemmas.List.{drop_at, take-append-drop}
@@ -35,7 +35,7 @@ use Rattle.authenticode_core.proofs.OneData.{one_data, one_element, same_certifi
 use Rattle.authenticode_core.proofs.Padded.{IsFirst-padded}
 use Rattle.authenticode_core.proofs.PolicyOrder.{asked_told, one_trusted, policy_told, shape_in_policy, trusted_unbroken}
 
--- Octets have one first fault at most, and none where they begin with an element.
+-- Octets have at most one first fault, and none if they begin with an element.
 abbrev pub FaultsAreOne : Type 0
 FaultsAreOne = (octets : List ℕ) (p q : ℕ) (e f : DerFault) → IsFirstFault octets p e → IsFirstFault octets q f → (p ≡ q) × (e ≡ f)
 
@@ -58,11 +58,11 @@ same_malformed : (m n : Malformed) → m.at ≡ n.at → m.fault ≡ n.fault →
 same_malformed m n same_place same_fault =
     ap (λ place. malformed place m.fault) same_place ∙ ap (malformed n.at) same_fault
 
--- a header that names a certificate has no refusal
+-- a header with a certificate has no refusal
 named_once : (octets certificate : List ℕ) (e : WinCertificateError) → contents_in octets ≡ Ok certificate → contents_in octets ≡ Err e → ⊥
 named_once octets certificate e named refused = absurd cc
 
--- ---- refusals are answers
+-- ---- refusals are results
 
 told_or_memory : (e : AuthenticodeError) → (told_of_content e ≡ Authenticode e) ⊎ (e ≡ errors.Memory)
 told_or_memory (errors.CertError e) = inl refl
@@ -89,13 +89,13 @@ told_or_memory (errors.Asn1DerError e) = inl refl
 told_or_memory (errors.TimestampError e) = inl refl
 told_or_memory errors.Memory = inr refl
 
--- of what the certificate is
+-- for what the certificate is
 pub value_refuses : (policy : Policy) (octets : List ℕ) (e : CheckError) → RefusesValue octets e → RefusesForm policy octets e
 value_refuses policy octets (Win e) p = p
 value_refuses policy octets (Authenticode e) p = inl p
 value_refuses policy octets Memory p = absurd p
 
--- and of the form
+-- and for the form
 pub shape_is_answer : (judge : Judge) (policy : Policy) (octets : List ℕ) (e : CheckError) → RefusesForm policy octets e → IsAnswer judge policy octets (Err e)
 shape_is_answer judge policy octets (Win e) p = p
 shape_is_answer judge policy octets (Authenticode e) (inl p) = inl p
@@ -108,11 +108,11 @@ rules_told judge policy octets f e has (inl broken) (inl told) = rw told (inr (f
 rules_told judge policy octets f e has p (inr memory) = rw memory tt
 rules_told judge policy octets f e has (inr memory) told = rw memory tt
 
--- of the rules, and want of memory
+-- by the rules, and out of memory
 pub refusal_is_answer : (judge : Judge) (policy : Policy) (octets : List ℕ) (f : SignedDataElements) (e : AuthenticodeError) → HasSignedData octets f → RefusesAuthenticodeBy (policy_rules judge policy f) e → IsAnswer judge policy octets (Err (told_of_content e))
 refusal_is_answer judge policy octets f e has p = rules_told judge policy octets f e has p (told_or_memory e)
 
--- a refusal of the form is never told as want of memory
+-- a refusal of the form is never out of memory
 shape_told_so : (policy : Policy) (f : SignedDataElements) (e : AuthenticodeError) (b : Bool) → IsFirstBroken (asked b (shape_rules f policy.file_hash)) e → (told_of_content e ≡ Authenticode e) ⊎ (e ≡ errors.Memory) → told_of_content e ≡ Authenticode e
 shape_told_so policy f e b broken (inl told) = told
 shape_told_so policy f e true broken (inr memory) =
@@ -193,7 +193,7 @@ module _ (at_most_one : FaultsAreOne) (exclude : FaultsExclude) where
   one_refusal policy octets (Authenticode e) Memory h k = absurd k
   one_refusal policy octets Memory f h k = absurd h
 
-  -- where there is signed data they are for its form
+  -- if there is signed data they are refused for its form
   pub refused_there : (policy : Policy) (octets : List ℕ) (f : SignedDataElements) (e : CheckError) → HasSignedData octets f → RefusesForm policy octets e
       → (x : AuthenticodeError) × (told_of_content x ≡ e) × IsFirstBroken (asked policy.basic (shape_rules f policy.file_hash)) x
   refused_there policy octets f (Win e) has p = absurd (named_once octets has.certificate e has.named p)
@@ -203,7 +203,7 @@ module _ (at_most_one : FaultsAreOne) (exclude : FaultsExclude) where
       (e, shape_told_so policy f e policy.basic broken (told_or_memory e), broken)
   refused_there policy octets f Memory has p = absurd p
 
-  -- ---- answers
+  -- ---- results
 
   abbrev Causes : Judge → Policy → List ℕ → AuthenticodeError → Type 0
   Causes judge policy octets e =
@@ -255,7 +255,7 @@ module _ (at_most_one : FaultsAreOne) (exclude : FaultsExclude) where
     pub refused_at : (r : Result Accepted CheckError) (e : CheckError) → r ≡ Err e → RefusesForm policy octets e → (f : CheckError) → RefusesForm policy octets f → r ≡ Err f
     refused_at r e is refuses f k = is ∙ ap Err (one_refusal policy octets e f refuses k)
 
-    -- what the signed data is refused for, its form first
+    -- why the signed data is refused, its form first
     pub refused_behind : (r : Result Accepted CheckError) (f : SignedDataElements) (given : Result Accepted AuthenticodeError) → HasSignedData octets f
         → ((x : AuthenticodeError) → IsFirstBroken (asked policy.basic (shape_rules f policy.file_hash)) x → given ≡ Err x) → ((x : AuthenticodeError) → given ≡ Err x → r ≡ Err (told_of_content x))
         → (e : CheckError) → RefusesForm policy octets e → r ≡ Err e

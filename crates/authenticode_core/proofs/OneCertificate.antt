@@ -1,4 +1,4 @@
--- A certificate has its elements once.
+-- The elements of a certificate are unique.
 use Rattle.std.proofs.Common.{◌≡◌, ◌∷◌}
 use Rattle.der_core.specs.DerElement.{Primitive}
 use Rattle.x509_types.specs.CertificateElements.{CertificateElements, certificate_of}

@@ -1,4 +1,4 @@
--- Octets have one signed data at most.
+-- Octets have at most one signed data.
 use Rattle.std.proofs.Common.{◌≡◌, ℕ, List, Ok, sym, ◌∙◌, subst}
 use Rattle.std.specs.Prelude.{replicate}
 use Rattle.cms_types.specs.Pkcs7.{pkcs7}
@@ -26,7 +26,7 @@ one_data octets f g p q =
     let element = one_element q.certificate (pkcs7 p.value) (pkcs7 q.value) (subst (λ (c : List ℕ). IsPaddedEncoding c (pkcs7 p.value)) same p.spelled) q.spelled in
     p.fields ∙ same_fields_of p.value.signed_data q.value.signed_data element ∙ sym q.fields
 
--- signed data that lies there
+-- borrowed signed data
 pub lies_there : (octets : List ℕ) (element : DerElement) (view : SignedView) → LiesIn octets element view → HasSignedData octets (data_elements view)
 lies_there octets element view lies = record {
   certificate = lies.certificate;

@@ -1,4 +1,5 @@
--- There is one reason to excuse the expiry of a signer's certificate, or none, or a bad stamp that is told once.
+-- There is one reason to excuse the expiry of a signer's certificate, or none, or a bad stamp with
+-- one error.
 use Rattle.std.proofs.Common.{◌≡◌, ℕ, List, inl, inr, refl, sym, ap, subst, ◌∙◌}
 use Rattle.cms_types.specs.SignedDataElements.{SignedDataElements}
 use Rattle.der_core.specs.Optional.{members_of}
@@ -41,7 +42,7 @@ module _ (judge : Judge) (f : SignedDataElements) (bag : List CertificateElement
   bad_stamp_is_told e bad (inl lifetime) = bad.mortal lifetime
   bad_stamp_is_told e bad (inr none) = none.1 bad.t bad.stamping_bag bad.has bad.stamping
 
--- ---- the bag of the token, which is one
+-- ---- the bag of the token, which is unique
 
 same_stamping_bag : (f s t : SignedDataElements) (a b : List CertificateElements) → HasToken f s → HasToken f t → IsForStamping s a → IsForStamping t b → a ≡ b
 same_stamping_bag f s t a b p q first second =

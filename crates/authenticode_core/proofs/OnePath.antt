@@ -1,4 +1,5 @@
--- A signer has one vouched path, and of certificates at places one answer is given whether they are a chain.
+-- A signer has at most one vouched path, and whether certificates at indices are a chain has one
+-- result.
 use Rattle.std.proofs.Common.{◌≡◌, ◌⊎◌, ℕ, List, [], ◌∷◌, ◌++◌, length, inl, inr, refl, sym, ap, subst, ◌∙◌}
 use Rattle.der_core.specs.Rules.{IsFirstBroken}
 use Rattle.key_core.specs.Verifying.{Judge}
@@ -15,17 +16,17 @@ use Rattle.authenticode_core.specs.LinkedPath.{StandAt, AreLinkedAt, IsUnlinkedA
 use Rattle.authenticode_core.specs.Places.{StandsAt}
 use Rattle.authenticode_core.proofs.WalkSteps.{one_path, same_certificate}
 
--- kept certificates of the same elements are the same
+-- stored certificates with the same elements are the same
 pub kept_once : (a b : KeptCertificate) → a.elements ≡ b.elements → a ≡ b
 kept_once a b e = same_kept a b e
 
--- a signer has one vouched path
+-- a signer has at most one vouched path
 pub path_once : (judge : Judge) (w : Window) (bag : List CertificateElements) (signer : KeptCertificate) (a b : List ℕ) → IsVouchedPath judge w bag signer a → IsVouchedPath judge w bag signer b → a ≡ b
 path_once judge w bag signer a b p q = one_path bag signer.elements a b p.is_path q.is_path
 
--- ---- certificates at places
+-- ---- certificates at indices
 
--- at a place one certificate is kept
+-- at an index there is one stored certificate
 pub kept_at_once : (bag : List CertificateElements) (place : ℕ) (a b : KeptCertificate) → StandsAt bag place a.elements → StandsAt bag place b.elements → a ≡ b
 kept_at_once bag place a b p q = kept_once a b (sym (same_certificate bag place place a.elements b.elements refl p q))
 
@@ -38,7 +39,7 @@ stand_once bag (place ∷ places) (k ∷ a) [] p q = absurd q
 stand_once bag (place ∷ places) (k ∷ a) (l ∷ b) p q =
     ap (λ (c : KeptCertificate). c ∷ a) (kept_at_once bag place k l p.0 q.0) ∙ ap (λ (cs : List KeptCertificate). l ∷ cs) (stand_once bag places a b p.1 q.1)
 
--- The certificates before a place, the one at it, and those behind it.
+-- The certificates before an index, the one at it, and those behind it.
 record Parted (bag : List CertificateElements) (before : List ℕ) (place : ℕ) (parents : List KeptCertificate) : Type 0 where
   below : List KeptCertificate
   parent : KeptCertificate
@@ -62,7 +63,7 @@ parted bag (first ∷ before) place after (k ∷ ks) s =
       stands = others.stands;
     }
 
--- ---- of two places in one list both are the same, or one is before the other
+-- ---- two indices in one list are the same, or one is before the other
 
 abbrev AreTwo : (a b : List ℕ) (x y : ℕ) → Type 0
 AreTwo a b x y = ((a ≡ b) × (x ≡ y)) ⊎ (((rest : List ℕ) × (b ≡ a ++ x ∷ rest)) ⊎ ((rest : List ℕ) × (a ≡ b ++ y ∷ rest)))
@@ -85,10 +86,10 @@ two_places (h ∷ a) (k ∷ b) x y c d e =
     let rest : a ++ x ∷ c ≡ b ++ y ∷ d = cc in
     behind h k a b x y same (two_places a b x y c d rest)
 
--- ---- chains at places
+-- ---- chains at indices
 
 module _ (judge : Judge) (w : Window) (bag : List CertificateElements) (checked : KeptCertificate) where
-  -- what is linked over a place isn't broken there
+  -- what is linked at an index isn't broken there
   linked_there : (places : List ℕ) (e : CertError) (u : IsUnlinkedAt judge w bag checked places e) (rest : List ℕ) (parents : List KeptCertificate) → StandAt bag (u.before ++ u.place ∷ rest) parents → IsLinkedChain judge w checked parents → ⊥
   linked_there places e u rest parents stand linked =
       let parts = parted bag u.before u.place rest parents stand in

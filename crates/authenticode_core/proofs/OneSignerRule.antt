@@ -1,4 +1,5 @@
--- The rules of the certificate of the signer: each is told once, and what is vouched for breaks none and is told once.
+-- The rules for the signer's certificate: each is reported by one error, and one that is vouched
+-- for breaks none and has one report.
 use Rattle.std.proofs.Common.{◌≡◌, ℕ, List, [], ◌∷◌, Bool, Some, true, false, IsTrue, refl, sym, ap, subst, ◌∙◌}
 use Rattle.cms_types.specs.SignedDataElements.{SignedDataElements}
 use Rattle.cms_types.specs.SignerElements.{SignerElements}
@@ -34,7 +35,7 @@ outside_once w signer = told_once signer (IsFirstBroken (window_rules w signer.e
 asked_or_not : (b : Bool) → b ≡ false → IsTrue b → ⊥
 asked_or_not b off on = absurd cc
 
--- ---- each is told once
+-- ---- each is reported by one error
 
 key_name_once : (f : SignedDataElements) → IsToldOnce (HasKeyName f)
 key_name_once f = λ a b p q. p.2.2 ∙ sym q.2.2
@@ -73,7 +74,7 @@ module _ (judge : Judge) (policy : Policy) (f : SignedDataElements) where
       let standing : AreToldOnce (standing_rules judge policy f) = (unbegun_once, (unexcused_once, (stamped_once, (unvouched_once, tt)))) in
       (λ a b p q. p.1 ∙ sym q.1, (key_name_once f, (unknown_name_once f, (undated_once policy, standing))))
 
-  -- ---- what is vouched for breaks none
+  -- ---- a certificate that is vouched for breaks none
 
   module _ (bag : List CertificateElements) (place : ℕ) (signer : KeptCertificate) (is : IsKeptSigner f bag place signer) where
     path_met : (path : List ℕ) (chain : Bool) → policy.chain ≡ chain → IsPathAsked chain judge (window_of policy) bag signer path → IsMet (IsUnvouched judge policy f)
@@ -88,7 +89,7 @@ module _ (judge : Judge) (policy : Policy) (f : SignedDataElements) where
         let valid = validity_met judge policy f bag place signer is excuse (standing_is_valid judge policy f bag place signer is path excuse stands) in
         met_together (validity_rules judge policy f) (IsUnvouched judge policy f ∷ []) valid (path_met path policy.chain refl stands.path_is, tt)
 
-    -- ---- and is told once
+    -- ---- and has one report
 
     same_asked : (chain : Bool) (p q : List ℕ) → IsPathAsked chain judge (window_of policy) bag signer p → IsPathAsked chain judge (window_of policy) bag signer q → p ≡ q
     same_asked true p q a b = one_path bag signer.elements p q a.is_path b.is_path

@@ -1,4 +1,4 @@
--- The rules of the signature: what meets them, and that each is told once.
+-- The rules of the signature: what meets them, and that each is reported by one error.
 use Rattle.std.proofs.Common.{◌≡◌, ◌≢◌, ℕ, List, [], ◌∷◌, refl, sym, ap, subst, ◌∙◌}
 use Rattle.asn1_types.specs.Elements.{integer}
 use Rattle.asn1_types.specs.Facts.Elements.{integers}
@@ -53,7 +53,7 @@ key_or_name octets kids e = absurd cc
 pub same_bag : (f : SignedDataElements) (a b : List CertificateElements) → IsBagOf f a → IsBagOf f b → a ≡ b
 same_bag f a b = one_bag (members_of f.certificates) a b
 
--- there is one certificate of the signer, at one place
+-- there is one signer's certificate, at one index
 pub signer_once : (f : SignedDataElements) (a b : List CertificateElements) (p q : ℕ) (c d : CertificateElements) → IsBagOf f a → IsBagOf f b → IsSignerCertificate f a p c → IsSignerCertificate f b q d → (p ≡ q) × (d ≡ c)
 signer_once f a b p q c d first second here there =
     least_once a (IsNamedByFirst (signers_of f)) 0 p q c d here (subst (λ (bag : List CertificateElements). IsSignerCertificate f bag q d) (same_bag f b a second first) there)
@@ -74,7 +74,7 @@ module _ (f : SignedDataElements) (g : SignerElements) where
       let there : IsSignerCertificate f broken.bag place c = subst (λ (b : List CertificateElements). IsSignerCertificate f b place c) (same_bag f bag broken.bag is broken.is_bag) signer in
       broken.none place c there.later there.stands there.fits
 
-  -- told once
+  -- reported by one error
 
   pub certificate_once : IsToldOnce (HasNoCertificate f g)
   certificate_once a b p q =
@@ -129,7 +129,7 @@ module _ (judge : Judge) (f : SignedDataElements) (d : IndirectData) (g : Signer
       subst (λ (b : List CertificateElements). AsksForPurposes b c) (same_bag f broken.bag bag broken.is_bag is) (subst (λ (x : CertificateElements). AsksForPurposes broken.bag x) same broken.asks) in
       broken.unnamed (subst (λ (x : CertificateElements). NamesPurpose x KP_CODE_SIGNING.now) (sym same) (may asks))
 
-  -- where the signature is good, no rule is broken
+  -- if the signature is good, no rule is broken
   pub signed_is_met : (place : ℕ) → IsFirstSigner f g → IsSigned judge f d g place → AreMet (signing_rules judge f d g)
   signed_is_met place first s = (
     named_is_met f g s.bag place s.certificate first s.is_signer,
@@ -151,11 +151,11 @@ module _ (judge : Judge) (f : SignedDataElements) (d : IndirectData) (g : Signer
   pub signed_breaks_no_rule : (place : ℕ) (e : AuthenticodeError) → IsFirstSigner f g → IsSigned judge f d g place → IsFirstBroken (signing_rules judge f d g) e → ⊥
   signed_breaks_no_rule place e first s = none_broken (signing_rules judge f d g) (signed_is_met place first s) e
 
-  -- it is good at one place
+  -- it is good at one index
   pub place_once : (p q : ℕ) → IsSigned judge f d g p → IsSigned judge f d g q → p ≡ q
   place_once p q a b = (signer_once f a.bag b.bag p q a.certificate b.certificate a.is_bag b.is_bag a.is_signer b.is_signer).0
 
-  -- ---- rules are told once
+  -- ---- each rule is reported by one error
 
   algorithm_once : (u v : UnsupportedAlgorithmError) → u ≡ v
   algorithm_once u v = refl
@@ -198,7 +198,7 @@ module _ (judge : Judge) (f : SignedDataElements) (d : IndirectData) (g : Signer
   pub one_signing_refusal : (a b : AuthenticodeError) → IsFirstBroken (signing_rules judge f d g) a → IsFirstBroken (signing_rules judge f d g) b → a ≡ b
   one_signing_refusal = one_broken (signing_rules judge f d g) signing_rules_are_told_once
 
-  -- ---- none of them tells of want of memory
+  -- ---- none of them reports out of memory
 
   no_key_name : errors.Memory ≡ errors.IncorrectSignerIdentifier → ⊥
   no_key_name e = absurd cc

@@ -1,4 +1,5 @@
--- The certificates that are left of an issuer walk, or of a bag, without those of a subject, one after another.
+-- The certificates that are left of an issuer walk, or of a bag, without those with a given
+-- subject, one after another.
 use Rattle.std.proofs.Common.{◌≡◌, ◌+◌, ℕ, zero, suc, List, [], ◌∷◌, length, Option, Some, None, IfSome, MatchOption, inl, inr, refl, sym, ap, subst, ◌∙◌, arith}
 use Rattle.std.proofs.lemmas.Option.{slice_get_within}
 use Rattle.der_core.specs.DerElement.{DerElement}
@@ -68,7 +69,7 @@ bag_steps cursor new bag places None placed stays step g = bag_ends cursor.place
 bag_steps cursor new bag places (Some next) placed stays step g =
     bag_goes_on new bag places cursor.place next.place g.count (view_elements next.certificate) (stays g.stands) placed.0 placed.1 (step g.stands) g.counted g.are
 
--- ---- without those of the subject
+-- ---- without those with the subject
 
 others_along : (bag : List CertificateElements) (subject : DerElement) (given path : List ℕ) (place : ℕ) (c : CertificateElements) (behind : List ℕ) → IsFirstOf bag given place c behind → AreOthers bag subject given path → AreOthers bag subject (place ∷ behind) path
 others_along bag subject given path place c behind first others = subst (λ (ps : List ℕ). AreOthers bag subject ps path) first.are others
@@ -85,11 +86,11 @@ told_at bag subject path place c behind stands fails (inl others) =
 told_at bag subject path place c behind stands fails (inr others) = (others.1, others.2, others.3)
 
 module _ (cursor new : Others) (bag : List CertificateElements) (same : new.subject.now ≡ cursor.subject.now) where
-  -- what the source gives next
+  -- what the source yields next
   abbrev pub Steps : (place : ℕ) (c : CertificateElements) → Type 0
   Steps place c = (places : List ℕ) → GivesPlaces cursor.source bag places → (behind : List ℕ) × IsFirstOf bag places place c behind × GivesPlaces new.source bag behind
 
-  -- one with the subject is passed over
+  -- one with the subject is skipped
   pub passed_over : (place : ℕ) (c : CertificateElements) → Steps place c → ((subject : DerElement) → cursor.subject.now ≡ encoding subject → HasSubject subject c) → (places : List ℕ) → AreLeft cursor bag places → AreLeft new bag places
   passed_over place c steps has places left =
       let moved = steps left.given left.gives in
@@ -101,7 +102,7 @@ module _ (cursor new : Others) (bag : List CertificateElements) (same : new.subj
         others = passed_at bag left.subject places place c moved.0 moved.1.stands (has left.subject left.octets) (others_along bag left.subject left.given places place c moved.0 moved.1 left.others);
       }
 
-  -- one with another subject is told
+  -- one with another subject is returned
   pub told : (place : ℕ) (c : CertificateElements) → Steps place c → ((subject : DerElement) → cursor.subject.now ≡ encoding subject → HasSubject subject c → ⊥) → (places : List ℕ) → AreLeft cursor bag places
       → (behind : List ℕ) × IsFirstOf bag places place c behind × AreLeft new bag behind
   told place c steps fails places left =
@@ -112,6 +113,6 @@ module _ (cursor new : Others) (bag : List CertificateElements) (same : new.subj
         record { subject = left.subject; octets = same ∙ left.octets; given = moved.0; gives = moved.2; others = others.2 },
       )
 
--- none is left where the source gives none
+-- none is left if the source yields none
 pub ended : (cursor : Others) (bag : List CertificateElements) → ((places : List ℕ) → GivesPlaces cursor.source bag places → places ≡ []) → (places : List ℕ) → AreLeft cursor bag places → places ≡ []
 ended cursor bag none places left = subst (λ (ps : List ℕ). AreOthers bag left.subject ps places) (none left.given left.gives) left.others

@@ -1,4 +1,4 @@
--- What is read of an encoding with zeros after it.
+-- What is read from an encoding with zeros after it.
 use Rattle.std.proofs.Common.{◌≡◌, ℕ, List, [], length, take, refl, ◌∙◌, ap}
 use Rattle.std.specs.Prelude.{replicate}
 use Rattle.std.proofs.lemmas.List.{take_at}
@@ -16,7 +16,7 @@ IsFirst-padded octets element padded = record {
   front = ap (take (length (encoding element))) padded.3 ∙ take_at (encoding element) (replicate padded.1 0) _ refl;
 }
 
--- no octets are cut off at once
+-- empty octets are truncated at offset 0
 pub no_octets : {octets : List ℕ} → octets ≡ [] → IsFirstFault octets 0 Truncated
 unfolding head_at
 no_octets {octets} none = rw none (record {

@@ -1,4 +1,4 @@
--- A bag that is read once to its end: the first certificate that is wanted, and the issuer walk.
+-- A bag that is read once to its end: the first wanted certificate, and the issuer walk.
 use Rattle.std.proofs.Common.{◌≡◌, ◌↔◌, IsTrue, Bool, true, false, ℕ, suc, List, [], Option, Some, None, MatchOption, sym, subst, arith}
 use Rattle.std.proofs.lemmas.Option.{slice_get_within}
 use Rattle.std.specs.Prelude.{length}
@@ -17,12 +17,12 @@ use Rattle.authenticode_core.specs.declared.signer.wanted.Wanted.{Wanted}
 use Rattle.authenticode_core.proofs.PlaceSteps.{none_behind, none_yet}
 use Rattle.authenticode_core.proofs.WalkedPlaces.{Walked, walked_none, walked_step, walked_all}
 
--- The certificate at the least place before this one of which the rule holds, or none.
+-- The certificate at the least index before this one for which the rule holds, or none.
 abbrev pub IsFoundBefore : List CertificateElements → (CertificateElements → Type 0) → ℕ → Option BagCertificate → Type 0
 IsFoundBefore bag holds place None = HoldsOfNone bag holds 0 place
 IsFoundBefore bag holds place (Some found) = IsLeastPlace bag holds 0 found.place (view_elements found.certificate)
 
--- The walk has passed some places, and the first of these whose certificate is wanted is known.
+-- The walk has passed some indices, and the first of these whose certificate is wanted is known.
 pub record Passed (bag : List CertificateElements) (subject : DerElement) (wanted : Wanted) (walk : IssuerWalk) (found : Option BagCertificate) (asks : Bool) : Type 0 where
   pub walked : Walked bag subject walk asks
   pub first : IsFoundBefore bag (IsWanted wanted) walk.bag.place found
@@ -44,7 +44,7 @@ found_step bag wanted from after next None (Some k) placed moved stands finds be
       least = λ place c later lt at fits. before place c later (omega (arith, lt, placed)) at fits;
     })
 
--- where the walk looks behind the certificate
+-- where the walk searches after the certificate
 looks_behind : (bag : List CertificateElements) (walk : IssuerWalk) (from : ℕ) (subject : DerElement) (place : ℕ) (c : CertificateElements) (on_walk : Bool) → StepsTo walk bag from subject place c on_walk → walk.bag.place ≡ suc from
 looks_behind bag walk from subject place c true s = s.goes.1.place
 looks_behind bag walk from subject place c false s = s.goes.1.place

@@ -1,4 +1,4 @@
--- Places of a bag that is read certificate by certificate.
+-- Indices of a bag that is read one certificate at a time.
 use Rattle.std.proofs.Common.{◌≡◌, ℕ, suc, ◌+◌, ◌<◌, ◌≤◌, List, [], ◌∷◌, ◌++◌, ◌⊎◌, Some, length, append_assoc, refl, sym, ap, subst, ◌∙◌, inl, inr, arith, length-append}
 use Rattle.std.proofs.lemmas.Bool.{cases_lt}
 use Rattle.std.proofs.lemmas.Option.{slice_get_read, slice_get_within}
@@ -17,12 +17,12 @@ here before others c =
     let bag = before ++ c ∷ others in
     slice_get_read bag (length bag) (length before) c refl (omega (arith, length-append before (c ∷ others))) (sym (get_or-append_seam before c others c))
 
--- nothing stands behind the last place
+-- nothing is after the last index
 pub none_behind : (bag : List CertificateElements) (holds : CertificateElements → Type 0) (from place : ℕ) → HoldsOfNone bag holds from place → length bag ≡ place → HasNoPlace bag holds from
 none_behind bag holds from place none e at c later stands fits =
     none at c later (omega (arith, slice_get_within bag at c stands, e)) stands fits
 
--- one more place of which the rule doesn't hold
+-- one more index for which the rule doesn't hold
 one_more : (bag : List CertificateElements) (holds : CertificateElements → Type 0) (from place : ℕ) (c : CertificateElements) → HoldsOfNone bag holds from place → StandsAt bag place c → (holds c → ⊥)
     → (other : ℕ) (d : CertificateElements) → from ≤ other → other < suc place → StandsAt bag other d → holds d → (other < place) ⊎ (place ≤ other) → ⊥
 one_more bag holds from place c none stands fails other d later before at fits (inl less) = none other d later less at fits
@@ -36,20 +36,20 @@ one_more bag holds from place c none stands fails other d later before at fits (
 pub none_yet : (bag : List CertificateElements) (holds : CertificateElements → Type 0) (from place : ℕ) (c : CertificateElements) → HoldsOfNone bag holds from place → StandsAt bag place c → (holds c → ⊥) → HoldsOfNone bag holds from (suc place)
 none_yet bag holds from place c none stands fails other d later before at fits = one_more bag holds from place c none stands fails other d later before at fits (cases_lt other place)
 
--- ---- where a cursor stands
+-- ---- where a cursor is
 
--- before the first of all
+-- before the first certificate
 pub at_start : (cursor : Bag) (members : List DerElement) (bag : List CertificateElements) → left_members cursor.members ≡ members → cursor.place ≡ 0 → IsBag members bag → StandsIn cursor bag
 at_start cursor members bag e placed p =
     record { before = []; behind = bag; are = refl; placed = placed; left = subst (λ (ms : List DerElement). IsBag ms bag) (sym e) p }
 
--- the members that are left have no certificate, so the cursor stands behind the last
+-- the members that are left have no certificate, so the cursor is after the last
 pub ended : (cursor : Bag) (members : List DerElement) (bag : List CertificateElements) → left_members cursor.members ≡ members → IsBag members [] → StandsIn cursor bag → length bag ≡ cursor.place
 ended cursor members bag e none s =
     let behind : s.behind ≡ [] = one_bag members s.behind [] (subst (λ (ms : List DerElement). IsBag ms s.behind) e s.left) none in
     omega (arith, ap length s.are, length-append s.before s.behind, ap length behind, s.placed)
 
--- What stands where the cursor was, and the parts of the bag around the place behind it.
+-- What is at the cursor's index, and the parts of the bag around the next one.
 pub record Moves (bag : List CertificateElements) (place : ℕ) (c : CertificateElements) (left : List DerElement) : Type 0 where
   pub before : List CertificateElements
   pub behind : List CertificateElements

@@ -1,4 +1,4 @@
--- The certificate of the plain form has the shape.
+-- The certificate of the plain form has the structure of a certificate.
 use Rattle.std.proofs.Common.{◌≡◌, ◌≢◌, ◌⊎◌, ◌+◌, ◌*◌, ◌-◌, ◌%◌, ◌/◌, ◌<◌, ◌≤◌, ℕ, List, [], ◌∷◌, Some, None, inl, inr, refl, subst, ◌∙◌, ap, arith}
 use Rattle.std.specs.Prelude.{codes}
 use Rattle.std.proofs.lemmas.Bool.{cases_lt}
@@ -22,7 +22,7 @@ use Rattle.x509_types.specs.declared.certificate.version.Version.TheVariants as 
 use Rattle.authenticode_core.specs.PlainForm.{CertificateParts, IsNewYear, IsPlainKey, algorithm, plain_name, plain_public_key_info, plain_validity}
 use Rattle.authenticode_core.proofs.PlainShape.{algorithm_value, name_value}
 
--- ---- the first moment of a year
+-- ---- the first second of a year
 
 full_year : (n : ℕ) → n < 100 → (n < 50) ⊎ (50 ≤ n) → (year : ℕ) × IsUtcYear year × (year % 100 ≡ n)
 full_year n few (inl less) = (2000 + n, record { first_year = omega arith; last_year = omega (arith, less) }, omega (arith, less))
@@ -98,7 +98,7 @@ plain_certificate_fields c = record {
   signature = c.signature;
 }
 
--- What the parts of a certificate keep.
+-- The rules for the parts of a certificate.
 pub record IsPlainCertificate (c : CertificateParts) : Type 0 where
   pub some_serial : c.tbs.serial ≢ []
   pub not_before : IsNewYear c.tbs.not_before

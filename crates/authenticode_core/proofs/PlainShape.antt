@@ -1,4 +1,5 @@
--- Signed data of the plain form has the shape, and its fields are those of the form.
+-- Signed data of the plain form has the structure of signed data, and its fields are those of the
+-- form.
 use Rattle.std.proofs.Common.{◌≡◌, ◌≢◌, ℕ, List, [], ◌∷◌, Some, true, refl, sym, ap, subst, ◌∙◌}
 use Rattle.asn1_types.specs.Elements.{object_identifier_of}
 use Rattle.asn1_types.proofs.KnownTable.{known_is}
@@ -150,7 +151,7 @@ data_fields_have_shape p null_der der = record {
   signers_infos = (plain_signer_info p.signer ∷ [], refl);
 }
 
--- the elements that are looked at, in bounds
+-- the elements that are read, within limits
 pub record Bounded (p : PlainParts) : Type 0 where
   pub content : IsDer (plain_content_info p.file_hash)
   pub signer : IsDer (plain_signer_info p.signer)

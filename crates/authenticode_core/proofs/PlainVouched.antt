@@ -1,4 +1,4 @@
--- Signed data of the plain form is vouched for exactly where it is accepted by its own condition.
+-- Signed data of the plain form is vouched for exactly if it is accepted by its own condition.
 use Rattle.std.proofs.Common.{◌≡◌, ◌↔◌, ℕ, List, [], ◌∷◌, ◌++◌, length, inl, inr, refl, sym, ap, subst, ◌∙◌, arith}
 use Rattle.std.proofs.lemmas.Option.{slice_get_within}
 use Rattle.asn1_types.specs.declared.oids.TheConstants as identifiers
@@ -40,7 +40,7 @@ use Rattle.authenticode_core.proofs.PlainShape.{bounded, plain_form_has_fields}
 use Rattle.authenticode_core.proofs.PlainCertificate.{IsPlainCertificate, certificate_fits, info_is, info_of, key_is_encoded, plain_certificate_fields}
 use Rattle.authenticode_core.proofs.WalkSteps.{same_certificate}
 
--- ---- a bag of one member at most
+-- ---- a bag with at most one member
 
 only_one : (member : DerElement) (bag : List CertificateElements) (place : ℕ) (c : CertificateElements) → IsBag (member ∷ []) bag → StandsAt bag place c → (place ≡ 0) × IsMember member c
 only_one member bag place c (inl p) stands = absurd (omega (arith, slice_get_within bag place c stands, ap length p.1))
@@ -100,7 +100,7 @@ module _ (judge : Judge) (p : PlainParts) where
 plain_parts : (p : PlainParts) → IsPlain p → IsPlainCertificate p.certificate
 plain_parts p plain = record { some_serial = plain.some_serial; not_before = plain.not_before; not_after = plain.not_after; key = plain.key }
 
--- the only certificate asks for nothing
+-- the only certificate has no extended key usage
 asks_nothing : (c : CertificateParts) → AsksForPurposes (plain_certificate_fields c ∷ []) (plain_certificate_fields c) → ⊥
 asks_nothing c asks =
     let place : 0 ≡ asks.place = omega (arith, slice_get_within (plain_certificate_fields c ∷ []) asks.place asks.c asks.stands) in

@@ -1,4 +1,5 @@
--- The rules of a policy: what meets them, that each is told once, and which is broken first.
+-- The rules of a policy: what meets them, that each is reported by one error, and which is broken
+-- first.
 use Rattle.std.proofs.Common.{◌≡◌, ℕ, List, [], ◌++◌, Bool, Option, Some, None, Result, Ok, Err, MatchResult, true, false, IsTrue, inl, inr, refl, sym, ap, subst, ◌∙◌}
 use Rattle.std.specs.Prelude.{IfSome}
 use Rattle.cms_types.specs.SignedDataElements.{SignedDataElements}
@@ -18,7 +19,7 @@ use Rattle.authenticode_core.proofs.BasicOrder.{basic_met, basic_told, one_vouch
 use Rattle.authenticode_core.proofs.OneSignerRule.{same_accepted, signer_met, signer_told, vouched_once}
 use Rattle.authenticode_core.proofs.OneSigning.{signer_once}
 
--- ---- rules that are asked for
+-- ---- rules that are checked
 
 on_or_off : (b : Bool) → b ≡ true → b ≡ false → ⊥
 on_or_off b on off = absurd (cc (on, off))
@@ -45,12 +46,12 @@ module _ (judge : Judge) (policy : Policy) (f : SignedDataElements) where
   abbrev last_rules : List (Rule AuthenticodeError)
   last_rules = asked policy.signing (signer_rules judge policy f)
 
-  -- ---- each is told once
+  -- ---- each is reported by one error
 
   pub policy_told : AreToldOnce (policy_rules judge policy f)
   policy_told = told_together first_rules last_rules (asked_told policy.basic (basic_rules judge f given) (basic_told f given judge)) (asked_told policy.signing (signer_rules judge policy f) (signer_told judge policy f))
 
-  -- ---- what is trusted breaks none
+  -- ---- trusted signed data breaks none
 
   trusted_met : (a : Accepted) → IsTrusted judge policy f a → AreMet (policy_rules judge policy f)
   trusted_met a t =
@@ -60,7 +61,7 @@ module _ (judge : Judge) (policy : Policy) (f : SignedDataElements) where
   pub trusted_unbroken : (a : Accepted) (e : AuthenticodeError) → IsTrusted judge policy f a → IsFirstBroken (policy_rules judge policy f) e → ⊥
   trusted_unbroken a e t broken = none_broken (policy_rules judge policy f) (trusted_met a t) e broken
 
-  -- ---- and is told once
+  -- ---- and has one report
 
   module _ (a b : Accepted) (t : IsTrusted judge policy f a) (u : IsTrusted judge policy f b) where
     same_places : IsBasicallyVouched judge given f a → IsBasicallyVouched judge given f b → a.signer ≡ b.signer
@@ -95,7 +96,7 @@ module _ (judge : Judge) (policy : Policy) (f : SignedDataElements) where
   place_met true told at = basic_met f given judge at.0 at.1
   place_met false told none = tt
 
-  -- the place that basic validation tells is that of the signer's certificate
+  -- the index that basic validation reports is that of the signer's certificate
   pub place_is_signers : (b : Bool) (told : Option ℕ) → IsPlaceAsked b judge given f told → IfSome told (HasSignerAt f)
   place_is_signers true told at =
       let s = at.1.2.signed in
@@ -142,7 +143,7 @@ module _ (judge : Judge) (policy : Policy) (f : SignedDataElements) where
     placeless = λ none none'. unplaced policy.basic told at none;
   }
 
-  -- ---- where basic validation is asked for, and where it isn't
+  -- ---- with and without basic validation
 
   pub unasked_place : (b : Bool) → b ≡ false → IsPlaceAsked b judge given f None
   unasked_place true off = absurd cc
@@ -164,7 +165,7 @@ module _ (judge : Judge) (policy : Policy) (f : SignedDataElements) where
   asked_shape true e on broken = broken
   asked_shape false e on broken = absurd broken
 
--- refusals of one answer are the same by what they tell
+-- the refusals of one result are the same error
 pub told_same : {A : Type 0} (r : Result A AuthenticodeError) (d e : AuthenticodeError) → r ≡ Err d → r ≡ Err e → d ≡ e
 told_same r d e p q =
     let same = sym p ∙ q in

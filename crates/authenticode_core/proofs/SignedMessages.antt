@@ -21,7 +21,7 @@ empty_set = refl
 
 -- ---- the attributes as a SET
 
--- What stands behind the tag is the same.
+-- What follows the tag is the same.
 pub record HasSameTail (element : DerElement) : Type 0 where
   pub tail : List ℕ
   pub own : encoding element ≡ tag_of element ∷ tail

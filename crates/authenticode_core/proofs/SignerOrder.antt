@@ -1,4 +1,4 @@
--- The rules of the certificate of the signer: what meets them, and which is broken first.
+-- The rules for the signer's certificate: what meets them, and which is broken first.
 use Rattle.std.proofs.Common.{◌≡◌, ◌⊎◌, ◌↔◌, ℕ, List, [], ◌∷◌, Bool, Option, Some, None, Result, Ok, Err, MatchResult, MatchOption, IsTrue, true, false, inl, inr, refl, sym, ap, subst, ◌∙◌}
 use Rattle.cms_types.specs.SignedDataElements.{SignedDataElements}
 use Rattle.cms_types.specs.SignerElements.{SignerElements}
@@ -43,15 +43,15 @@ use Rattle.authenticode_core.proofs.FormFields.{signer_is_spelled, signer_once a
 use Rattle.authenticode_core.proofs.OneExcuse.{bad_stamp_is_no_reason, bad_stamp_is_told, reason_or_not}
 use Rattle.authenticode_core.proofs.OneSigning.{certificate_is_met, named_is_met, same_bag, signer_once}
 
--- ---- the certificate of the signer is one
+-- ---- the signer's certificate is unique
 
--- what is said of a bag and a certificate in it that is the signer's is said of each such pair
+-- what holds for a bag and the signer's certificate in it holds for each such pair
 pub moved : (Says : List CertificateElements → KeptCertificate → Type 0) (f : SignedDataElements) (a b : List CertificateElements) (p q : ℕ) (s t : KeptCertificate) → IsKeptSigner f a p s → IsKeptSigner f b q t → Says a s → Says b t
 moved Says f a b p q s t here there said =
     let same = signer_once f a b p q s.elements t.elements here.is_bag there.is_bag here.is_signer there.is_signer in
     subst (λ (signer : KeptCertificate). Says b signer) (same_kept s t (sym same.1)) (subst (λ (bag : List CertificateElements). Says bag s) (same_bag f a b here.is_bag there.is_bag) said)
 
--- ---- who it is
+-- ---- which certificate it is
 
 some_signers : (signers others : List DerElement) (first : DerElement) → signers ≡ first ∷ others → signers ≡ [] → ⊥
 some_signers signers others first is none =
@@ -86,7 +86,7 @@ no_signer_in f (first ∷ others) spelled are none =
 pub lacks_signer : (f : SignedDataElements) → AreSpelled f → ((g : SignerElements) → IsFirstSigner f g → ⊥) → LacksSigner f (errors.MultipleSignerInfo 0)
 lacks_signer f spelled none = no_signer_in f (signers_of f) spelled refl none
 
--- ---- what is told of certificates
+-- ---- what is reported of certificates
 
 pub told_of_certificates : (e : CertError) → (of_certificates e ≡ errors.CertError e) ⊎ (e ≡ cert_errors.Memory)
 told_of_certificates (cert_errors.CertGeneration source) = inl refl
@@ -110,7 +110,7 @@ undated_told policy cause lacks = ap of_certificates lacks.2 ∙ sym (ap errors.
 outside_told : (w : Window) (signer : KeptCertificate) (cause : CertError) → IsOutside w signer cause → of_certificates cause ≡ errors.CertError cause
 outside_told w signer cause outside = ap of_certificates outside.told ∙ sym (ap errors.CertError outside.told)
 
--- ---- what has expired, and what is told of it
+-- ---- expired certificates, and what is reported of them
 
 pub valid_or_expired : (w : Window) (c : CertificateElements) → IsWithinWindow w c → IsExpired w c → ⊥
 valid_or_expired w c valid expired = valid.lasts expired.1.2.asked expired.1.0 expired.1.1 expired.1.2.ends expired.1.2.first expired.1.2.passed
@@ -129,7 +129,7 @@ unexpired_if_untold w signer cause outside untold expired =
     let same : outside.cause ≡ causes.CertificateExpired told.0 told.1 = window_once w signer.elements outside.cause (causes.CertificateExpired told.0 told.1) outside.broken told.2 in
     untold (outside.id, outside.cause, (told.0, told.1, same), outside.told)
 
--- what an option holds, or that it holds nothing
+-- the value of an option, or that it has none
 pub given : {X : Type 0} (o : Option X) (x : X) (N : Type 0) (P : X → Type 0) → o ≡ Some x → MatchOption o N P → P x
 given None x N P e m = absurd (cc e)
 given (Some y) x N P e m =
@@ -140,7 +140,7 @@ pub none_given : {X : Type 0} (o : Option X) (N : Type 0) (P : X → Type 0) →
 none_given None N P e m = m
 none_given (Some y) N P e m = absurd (cc e)
 
--- ---- refusals before the certificate is looked at
+-- ---- refusals before the certificate is read
 
 module _ (judge : Judge) (policy : Policy) (f : SignedDataElements) where
   pub no_signer : (e : AuthenticodeError) → LacksSigner f e → RefusesAuthenticodeBy (signer_rules judge policy f) e
@@ -161,7 +161,7 @@ module _ (judge : Judge) (policy : Policy) (f : SignedDataElements) where
       inl (broken_behind (named_rules f) (IsUndated policy ∷ standing_rules judge policy f) e (named_met f s.0 place c s.1 s.2) (inr (dated_met policy dated, broken)))
   not_standing place c e s dated (inr memory) = inr memory
 
-  -- ---- what the rules say of the certificate of the signer
+  -- ---- the rules for the signer's certificate
 
   abbrev pub UnbegunAt : AuthenticodeError → List CertificateElements → KeptCertificate → Type 0
   UnbegunAt e bag signer = (IsExpired (window_of policy) signer.elements → ⊥) × (cause : CertError) × IsOutside (window_of policy) signer cause × (e ≡ errors.CertError cause)
@@ -217,7 +217,7 @@ module _ (judge : Judge) (policy : Policy) (f : SignedDataElements) where
       ),
     )
 
-    -- what is valid, or may be excused, breaks no rule before that of the issuer path
+    -- a certificate that is valid, or may be excused, breaks no rule before that of the issuer path
     pub validity_met : (x : Excuse) → IsValidOrExcusable judge policy f bag signer.elements x → AreMet (validity_rules judge policy f)
     validity_met excuses.None valid = valid_met valid
     validity_met excuses.Bag valid = excuse_met excuses.Bag valid.0 valid.1
@@ -260,7 +260,7 @@ module _ (judge : Judge) (policy : Policy) (f : SignedDataElements) where
     badly_stamped e expired stamp =
         inl (inr (begun_met expired, inr (unexcused_met e stamp, inl (record { bag = bag; place = place; signer = signer; is = is; expired = expired; stamp = stamp }))))
 
-    -- a rule of these is one of the rules behind which that of the issuer path stands
+    -- one of these rules is one of those before that of the issuer path
     pub before_path : (e : AuthenticodeError) → RefusesAuthenticodeBy (validity_rules judge policy f) e → RefusesAuthenticodeBy (standing_rules judge policy f) e
     before_path e (inl broken) = inl (broken_before (validity_rules judge policy f) (IsUnvouched judge policy f ∷ []) e broken)
     before_path e (inr memory) = inr memory
@@ -287,7 +287,7 @@ module _ (judge : Judge) (policy : Policy) (f : SignedDataElements) where
     pub unvouched : (x : Excuse) (cause : CertError) → IsValidOrExcusable judge policy f bag signer.elements x → IsTrue policy.chain → IsUnlinkedPath judge (window_of policy) bag signer cause → RefusesAuthenticodeBy (standing_rules judge policy f) (of_certificates cause)
     unvouched x cause valid asked unlinked = unvouched_told x cause valid asked unlinked (told_of_certificates cause)
 
-    -- ---- what isn't valid
+    -- ---- certificates that aren't valid
 
     expired_by : (cause : CertError) → Breaks (IsOutside (window_of policy) signer) cause → TellsExpiry cause → IsOutside (window_of policy) signer cause
     expired_by cause (inl outside) tells = outside
@@ -322,7 +322,8 @@ module _ (judge : Judge) (policy : Policy) (f : SignedDataElements) where
     reason_is_enough excuses.Bag expired reason = (expired, reason)
     reason_is_enough excuses.Token expired reason = (expired, reason)
 
-    -- the certificate stands where it is valid or may be excused, and its issuer path is linked where that is asked for
+    -- the certificate passes if it is valid or may be excused, and its issuer path is linked if the
+    -- chain is checked
     pub stands_over : (path : List ℕ) (x : Excuse) → IsValidOrExcusable judge policy f bag signer.elements x → IsPathAsked policy.chain judge (window_of policy) bag signer path → IsStanding judge policy f bag signer path x
     stands_over path excuses.None valid linked = record { begun = valid.begun; lasts = valid.lasts; path_is = linked }
     stands_over path excuses.Bag valid linked = record { begun = valid.0.0; lasts = (valid.0, record { reason = valid.1; path_is = linked }); path_is = linked }
@@ -338,11 +339,11 @@ module _ (judge : Judge) (policy : Policy) (f : SignedDataElements) where
     vouched_or_not dated (Ok a) h = record { bag = bag; place = place; signer = signer; is = is; told = h.0; dated = dated; stands = h.1 }
     vouched_or_not dated (Err e) h = not_standing place signer.elements e (bag, is.is_bag, is.is_signer) dated h
 
--- what is kept of the certificate of the signer
+-- the stored certificate of the signer
 pub kept_signer : (f : SignedDataElements) (place : ℕ) (c : CertificateElements) (signer : KeptCertificate) (s : HasSigner f place c) → signer.elements ≡ c → IsKeptSigner f s.0 place signer
 kept_signer f place c signer s same = record { is_bag = s.1; is_signer = subst (λ (x : CertificateElements). IsSignerCertificate f s.0 place x) (sym same) s.2 }
 
--- ---- whether expiry is told
+-- ---- whether expiry is reported
 
 pub tells_so : (e : CertError) (id : DirectoryName) (cause : CertCause) (t : Bool) → e ≡ cert_errors.InvalidCertificate id cause → (IsTrue t ↔ IsExpiry cause) → IsTrue t ↔ TellsExpiry e
 tells_so e id cause t is test = (
@@ -353,7 +354,7 @@ tells_so e id cause t is test = (
 pub tells_not : (e : CertError) → ((id : DirectoryName) (cause : CertCause) → e ≡ cert_errors.InvalidCertificate id cause → ⊥) → IsTrue false ↔ TellsExpiry e
 tells_not e none = (λ on. absurd cc, λ tells. absurd (none tells.0 tells.1 tells.3))
 
--- ---- where a chain is asked for, and where it isn't
+-- ---- with and without the chain
 
 module _ (judge : Judge) (w : Window) (bag : List CertificateElements) (signer : KeptCertificate) where
   pub unasked_path : (b : Bool) (path : List ℕ) → b ≡ false → path ≡ [] → IsPathAsked b judge w bag signer path

@@ -1,4 +1,4 @@
--- Parts of a list, of a signer and of how it names its certificate.
+-- Parts of a list, of a signer and of how it identifies its certificate.
 use Rattle.std.proofs.Common.{◌≡◌, ℕ, List, [], ◌∷◌}
 use Rattle.cms_types.specs.SignerElements.{SignerElements, signer_of}
 use Rattle.der_core.specs.DerElement.{DerElement, Primitive}

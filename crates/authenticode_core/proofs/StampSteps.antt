@@ -1,4 +1,4 @@
--- The certificates of a token, and what is told of them.
+-- The certificates of a token, and what is reported of them.
 use Rattle.std.proofs.Common.{◌≡◌, ◌⊎◌, ◌↔◌, ℕ, List, Bool, Option, Some, None, MatchOption, length, inl, inr, subst, ◌∙◌, arith}
 use Rattle.std.specs.Prelude.{IfSome, IsTrue}
 use Rattle.std.specs.Option.{is_some}
@@ -17,7 +17,7 @@ use Rattle.authenticode_core.specs.declared.error.AuthenticodeError.{Authenticod
 use Rattle.authenticode_core.specs.declared.error.AuthenticodeError.TheVariants as errors
 use Rattle.authenticode_core.specs.declared.signer.bag.BagCertificate.{BagCertificate}
 
--- ---- a bag that names time stamping
+-- ---- a bag with a certificate for time stamping
 
 abbrev IsForTime : CertificateElements → Type 0
 IsForTime c = NamesPurpose c KP_TIME_STAMPING.now
@@ -44,7 +44,7 @@ leads_or_none (Some k) moved t bag start e is named placed stands = record {
   stands = subst (λ (place : ℕ). StandsAt bag place (view_elements k.certificate)) (placed.0 ∙ e) stands;
 }
 
--- ---- what is told where it isn't linked
+-- ---- what is reported if it isn't linked
 
 pub told_or_memory : (judge : Judge) (f t : SignedDataElements) (bag : List CertificateElements) (c first : CertificateElements) (e : AuthenticodeError) → (NamesLifetime c → ⊥) → (NamesTimeStamping bag → ⊥) → HasToken f t
     → (leads : LeadsStamping t first) → TellsUnlinked judge leads.bag e ⊎ (e ≡ errors.Memory) → HasBadStamp judge f bag c e ⊎ (e ≡ errors.Memory)

@@ -1,4 +1,4 @@
--- The token beside a signature: found, missing, and found once.
+-- The token of a signature: found, missing, and unique.
 use Rattle.std.proofs.Common.{◌≡◌, ◌≢◌, List, [], ◌∷◌, Option, Some, None, MatchOption, refl, sym, ap, subst, ◌∙◌}
 use Rattle.asn1_types.specs.declared.oids.TheConstants.{RFC3161_COUNTER_SIGN}
 use Rattle.cms_types.specs.Pkcs7.{pkcs7}
@@ -22,7 +22,7 @@ use Rattle.authenticode_core.proofs.FormFields.{fields_of_view, same_fields_of, 
 use Rattle.authenticode_core.proofs.FormSteps.{signer_lies}
 use Rattle.authenticode_core.proofs.SignerSteps.{heads}
 
--- ---- the first of the signers
+-- ---- the first signer
 
 pub no_signers : (f : SignedDataElements) → signers_of f ≡ [] → (g : SignerElements) → IsFirstSigner f g → ⊥
 no_signers f none g first =
@@ -36,7 +36,7 @@ first_or_none None f first others are none = λ g is. none is.value (heads first
 first_or_none (Some view) f first others are is =
     record { value = is.value; others = others; is = signer_lies first view is; first = are ∙ ap (λ (x : DerElement). x ∷ others) is.spelled }
 
--- ---- the first of the attributes that are lent
+-- ---- the first of the borrowed attributes
 
 pub first_lent : (r lent : Option Elem) (elem : Elem) (given : Option DerElement) → at_option lent ≡ given → lent ≡ Some elem
     → MatchOption r (members_of (Some elem.is.0) ≡ []) (λ first. (others : List DerElement) × (members_of (Some elem.is.0) ≡ first.is.0 ∷ others))
@@ -92,7 +92,7 @@ token_or_none (Some view) f g attribute token attributes values tokens first uns
   fields = fields_of_view token view is;
 }
 
--- ---- there is one
+-- ---- it is unique
 
 pub token_once : (f s t : SignedDataElements) → HasToken f s → HasToken f t → s ≡ t
 token_once f s t p q =

@@ -1,4 +1,4 @@
--- A certificate has one issuer walk in a bag, and one issuer path.
+-- A certificate has at most one issuer walk in a bag, and at most one issuer path.
 use Rattle.std.proofs.Common.{◌≡◌, ℕ, suc, ◌<◌, ◌≤◌, List, [], ◌∷◌, ◌⊎◌, Some, refl, sym, ap, subst, ◌∙◌, inl, inr, arith}
 use Rattle.std.proofs.lemmas.Bool.{cases_lt}
 use Rattle.der_core.specs.DerElement.{DerElement}
@@ -22,7 +22,7 @@ same_certificate bag p q c d e a b =
     let some : Some d ≡ Some c = sym there ∙ a in
     cc
 
--- there is one least place, and one certificate at it
+-- there is one least index, and one certificate at it
 pub least_once : (bag : List CertificateElements) (holds : CertificateElements → Type 0) (from p q : ℕ) (c d : CertificateElements) → IsLeastPlace bag holds from p c → IsLeastPlace bag holds from q d → (p ≡ q) × (d ≡ c)
 least_once bag holds from p q c d a b =
     let place = same_place bag holds from p q c d a b (cases_lt p q) (cases_lt q p) in

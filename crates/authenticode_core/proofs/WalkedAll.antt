@@ -1,4 +1,5 @@
--- There is an issuer walk from each place of a bag, for each subject, and there are the places without those of a subject.
+-- There is an issuer walk from each index of a bag, for each subject, and there are the indices
+-- without those of a subject.
 use Rattle.std.proofs.Common.{◌≡◌, ◌+◌, ◌≤◌, ◌⊎◌, true, false, ℕ, zero, suc, List, [], ◌∷◌, length, bytes_eq, inl, inr, refl, sym, subst, arith}
 use Rattle.std.proofs.lemmas.Bool.{both_ways, cases_Bool, cases_eq}
 use Rattle.std.proofs.lemmas.Option.{slice_get_cases, slice_get_within}
@@ -20,7 +21,7 @@ tested a b (inr differ) = inr (λ e. both_ways (bytes_eq a b) differ ((bytes_eq-
 has_subject : (subject : DerElement) (c : CertificateElements) → HasSubject subject c ⊎ (HasSubject subject c → ⊥)
 has_subject subject c = tested (encoding c.tbs.subject) (encoding subject) (cases_Bool (bytes_eq (encoding c.tbs.subject) (encoding subject)))
 
--- a place of a bag, or one behind the last
+-- an index of a bag, or the one after the last
 abbrev IsAt : List CertificateElements → ℕ → Type 0
 IsAt bag place = ((c : CertificateElements) × StandsAt bag place c) ⊎ (length bag ≤ place)
 
@@ -32,7 +33,7 @@ is_at bag place = elim (slice_get_cases bag place).1 as (λ _. IsAt bag place) [
 none_past : (bag : List CertificateElements) (holds : CertificateElements → Type 0) (from : ℕ) → length bag ≤ from → HasNoPlace bag holds from
 none_past bag holds from past place c later stands fits = omega (arith, slice_get_within bag place c stands)
 
--- where the first one doesn't fit, one that fits stands behind it
+-- if the first one doesn't fit, one that fits is after it
 later_yet : (bag : List CertificateElements) (holds : CertificateElements → Type 0) (from : ℕ) (c : CertificateElements) → StandsAt bag from c → (holds c → ⊥) → (place : ℕ) (d : CertificateElements) → from ≤ place → StandsAt bag place d → holds d
     → (place ≡ from) ⊎ (place ≡ from → ⊥) → suc from ≤ place
 later_yet bag holds from c stands fails place d later at fits (inl e) = absurd (fails (subst holds (same_certificate bag from place c d (sym e) stands at) fits))
@@ -54,7 +55,7 @@ passed bag from c subject (first ∷ places) stands fails w = (
 none_before : (bag : List CertificateElements) (holds : CertificateElements → Type 0) (from : ℕ) → HoldsOfNone bag holds from from
 none_before bag holds from place c later before stands fits = omega (arith, later, before)
 
--- some walk from the place, for the subject
+-- some walk from the index, for the subject
 abbrev HasWalk : List CertificateElements → ℕ → DerElement → Type 0
 HasWalk bag from subject = (places : List ℕ) × IsWalkFrom bag from subject places
 
@@ -77,7 +78,7 @@ walk_within (suc left) bag from subject enough = walk_at bag from subject (λ s.
 pub some_walk : (bag : List CertificateElements) (subject : DerElement) → (places : List ℕ) × IsWalkFrom bag 0 subject places
 some_walk bag subject = walk_within (length bag) bag 0 subject (omega arith)
 
--- ---- the places without those of a subject
+-- ---- the indices without those of a subject
 
 subject_of : (bag : List CertificateElements) (subject : DerElement) (place : ℕ) (c : CertificateElements) → StandsAt bag place c → HasSubject subject c ⊎ (HasSubject subject c → ⊥) → HasSubjectAt bag subject place ⊎ (HasSubjectAt bag subject place → ⊥)
 subject_of bag subject place c stands (inl has) = inl (c, stands, has)
@@ -87,7 +88,7 @@ subject_at : (bag : List CertificateElements) (subject : DerElement) (place : �
 subject_at bag subject place (inl (c, stands)) = subject_of bag subject place c stands (has_subject subject c)
 subject_at bag subject place (inr past) = inr (λ h. omega (arith, past, slice_get_within bag place h.0 h.1))
 
--- some places without those of the subject
+-- some indices without those of the subject
 abbrev HasOthers : List CertificateElements → DerElement → List ℕ → Type 0
 HasOthers bag subject places = (path : List ℕ) × AreOthers bag subject places path
 

@@ -16,7 +16,7 @@ use Rattle.authenticode_core.specs.WalkCursor.{LooksFrom, GoesPast}
 use Rattle.authenticode_core.specs.declared.path.issuer_walk.IssuerWalk.{IssuerWalk}
 use Rattle.authenticode_core.proofs.WalkSteps.{one_walk, same_certificate}
 
--- A certificate at one of the places has an extended key usage.
+-- A certificate at one of the indices has an extended key usage.
 pub record HasPurposesAmong (bag : List CertificateElements) (places : List ℕ) : Type 0 where
   pub place : ℕ
   pub among : Contains places place
@@ -24,7 +24,7 @@ pub record HasPurposesAmong (bag : List CertificateElements) (places : List ℕ)
   pub stands : StandsAt bag place c
   pub purposes : HasPurposes c
 
--- The walk has passed these places, and goes on from there.
+-- The walk has passed these indices, and goes on from there.
 pub record Walked (bag : List CertificateElements) (subject : DerElement) (walk : IssuerWalk) (asks : Bool) : Type 0 where
   pub places : List ℕ
   pub from : ℕ
@@ -46,7 +46,7 @@ walked_none bag subject walk looks = record {
   told = (λ w. absurd cc, λ h. absurd (none_among bag h));
 }
 
--- ---- one more place
+-- ---- one more index
 
 joined_more : (bag : List CertificateElements) (subject next : DerElement) (places : List ℕ) (from place : ℕ) (c : CertificateElements) → IsLeastPlace bag (HasSubject next) from place c
     → ((rest : List ℕ) → IsWalkFrom bag from next rest → IsWalkFrom bag 0 subject (places ++ rest))
@@ -67,7 +67,7 @@ is_last_at place other (suc k) lt e = absurd (omega (arith, lt))
 is_last : (place other : ℕ) → Contains (place ∷ []) other → place ≡ other
 is_last place other last = is_last_at place other last.0 (omega (arith, last.1)) last.2
 
--- what is told of one more place
+-- what holds with one more index
 told_more : (bag : List CertificateElements) (places : List ℕ) (place : ℕ) (c : CertificateElements) (asks : Bool) → StandsAt bag place c → (IsTrue asks → HasPurposesAmong bag places) → IsTrue asks ⊎ HasPurposes c
     → HasPurposesAmong bag (places ++ place ∷ [])
 told_more bag places place c asks stands told (inl t) = still_among bag places place (told t)
@@ -83,7 +83,7 @@ least_here : (bag : List CertificateElements) (holds : CertificateElements → T
 least_here bag holds place c stands fits =
     record { later = omega arith; stands = stands; fits = fits; least = λ other d later before at is. absurd (omega (arith, later, before)) }
 
--- the certificate at the place is the next one of the walk
+-- the certificate at the index is the next one of the walk
 walked_more : (bag : List CertificateElements) (subject : DerElement) (walk next : IssuerWalk) (asks asks' : Bool) (c : CertificateElements) (w : Walked bag subject walk asks) → StandsAt bag w.from c → HasSubject w.next c
     → LooksFrom next bag (suc w.from) c.tbs.issuer → IsTrue asks' ↔ (IsTrue asks ⊎ HasPurposes c) → Walked bag subject next asks'
 walked_more bag subject walk next asks asks' c w stands fits looks asked = record {
@@ -98,7 +98,7 @@ walked_more bag subject walk next asks asks' c w stands fits looks asked = recor
   );
 }
 
--- ---- a place that is passed over
+-- ---- a skipped index
 
 apart : (bag : List CertificateElements) (subject : DerElement) (from place : ℕ) (c d : CertificateElements) → StandsAt bag from c → (HasSubject subject c → ⊥) → from ≤ place → StandsAt bag place d → HasSubject subject d
     → (from < place) ⊎ (place ≤ from) → suc from ≤ place

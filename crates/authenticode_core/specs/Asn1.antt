@@ -1,4 +1,4 @@
--- Elements of the plain form by their contents octets (X.690 8). The words of `asn1_types` are of
+-- Elements of the plain form by their contents octets (X.690 8). The functions of `asn1_types` take
 -- values, and the form has contents that no value has.
 use Rattle.std.specs.Prelude.{ℕ, ◌+◌, List}
 use Rattle.der_core.specs.DerElement.{DerElement, Primitive, Constructed, row}

@@ -1,4 +1,4 @@
--- The certificate of the signer (RFC 5652 5.3, 10.2.4).
+-- The signer's certificate (RFC 5652 5.3, 10.2.4).
 use Rattle.std.specs.Prelude.{◌≡◌, ℕ, List, ◌∷◌}
 use Rattle.der_core.specs.DerElement.{DerElement}
 use Rattle.asn1_types.specs.Values.{integer_contents}
@@ -17,7 +17,7 @@ HasIssuerAndSerial value c =
     IsSameElement (name value.issuer) c.tbs.issuer
     × (integer_contents value.serial_number ≡ c.tbs.serial_number)
 
--- The first of the signers names the certificate by its issuer and its serial number.
+-- The first signer identifies the certificate by issuer and serial number.
 pub record IsNamedByFirst (signers : List DerElement) (c : CertificateElements) : Type 0 where
   pub signer : SignerInfo
   pub others : List DerElement
@@ -26,12 +26,12 @@ pub record IsNamedByFirst (signers : List DerElement) (c : CertificateElements) 
   pub sid : signer.sid ≡ named.IssuerAndSerialNumber value
   pub has : HasIssuerAndSerial value c
 
--- the place is the least one whose certificate the first of the signers names
+-- the index is the least one whose certificate the first signer identifies
 abbrev pub IsSignerPlace : List DerElement → List CertificateElements → ℕ → CertificateElements
     → Type 0
 IsSignerPlace signers bag place c = IsLeastPlace bag (IsNamedByFirst signers) 0 place c
 
--- There is no such place: there is no signer, it names the identifier of a key, or no certificate
--- fits.
+-- There is no such index: there is no signer, it has a key identifier, or no certificate has its
+-- issuer and serial number.
 abbrev pub HasNoSigner : List DerElement → List CertificateElements → Type 0
 HasNoSigner signers bag = HasNoPlace bag (IsNamedByFirst signers) 0

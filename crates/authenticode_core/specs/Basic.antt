@@ -1,4 +1,4 @@
--- The signed data of a signature file: when it is there, when it vouches for the digest of a file,
+-- The signed data of a signature file: when there is one, when it vouches for the digest of a file,
 -- and why not.
 use Rattle.std.specs.Prelude.{◌≡◌, ◌≤◌, ◌⊎◌, ℕ, drop, replicate, List, ◌∷◌, Ok, Err}
 use Rattle.cms_types.specs.Pkcs7.{pkcs7}
@@ -27,8 +27,8 @@ use Rattle.authenticode_core.specs.declared.error.AuthenticodeError.TheVariants.
 use Rattle.authenticode_core.specs.declared.error.CheckError.{CheckError}
 use Rattle.authenticode_core.specs.declared.error.CheckError.TheVariants.{Win, Authenticode, Memory}
 
--- The octets begin with a WIN_CERTIFICATE whose certificate is signed data of these fields, with at
--- most seven zeros after it.
+-- The octets begin with a WIN_CERTIFICATE whose certificate encodes signed data with these fields,
+-- with at most seven zeros after it.
 pub record HasSignedData (octets : List ℕ) (f : SignedDataElements) : Type 0 where
   pub certificate : List ℕ
   pub named : contents_in octets ≡ Ok certificate
@@ -36,8 +36,8 @@ pub record HasSignedData (octets : List ℕ) (f : SignedDataElements) : Type 0 w
   pub spelled : IsPaddedEncoding certificate (pkcs7 value)
   pub fields : f ≡ signed_data_elements value.signed_data
 
--- Signed data vouches for the digest of a file: it has the form, the digest is the one that is
--- asked for, and the signature of its one signer, whose certificate stands at this place, is good.
+-- Signed data vouches for the digest of a file: it has the form, the digest is the expected one,
+-- and the signature of its one signer, whose certificate is at this index, is good.
 pub record VouchesFor (judge : Judge) (f : SignedDataElements) (file_hash : List ℕ)
     (place : ℕ) : Type 0 where
   pub algorithm : DerElement
@@ -47,13 +47,13 @@ pub record VouchesFor (judge : Judge) (f : SignedDataElements) (file_hash : List
   pub binds_hash : d.digest ≡ file_hash
   pub signed : IsSigned judge f d g place
 
--- ---- why the octets hold no signed data
+-- ---- why the octets have no signed data
 
 -- at most seven zeros, which align a WIN_CERTIFICATE
 abbrev pub IsPadding : List ℕ → Type 0
 IsPadding octets = (zeros : ℕ) × (zeros ≤ 7) × (octets ≡ replicate zeros 0)
 
--- The first element takes so many octets, and what follows it is no padding.
+-- The octets begin with an element of this length, and what follows it is no padding.
 pub record HasMoreThanPadding (octets : List ℕ) (place : ℕ) : Type 0 where
   pub element : DerElement
   pub first : IsFirst octets element place
@@ -72,8 +72,7 @@ pub record IsShapeless (certificate : List ℕ) : Type 0 where
   pub spelled : IsPaddedEncoding certificate element
   pub none : (value : Pkcs7Certificate) → element ≡ pkcs7 value → ⊥
 
--- why the octets of a certificate aren't signed data: they are no element, or that of another
--- structure
+-- why the octets of a certificate aren't signed data: they are no element, or another structure
 abbrev pub IsNoSignedData : List ℕ → DerError → Type 0
 IsNoSignedData certificate (der.Malformed m) = IsMalformedPadded certificate m
 IsNoSignedData certificate der.Shape = IsShapeless certificate
@@ -81,7 +80,7 @@ IsNoSignedData certificate der.TooDeep = ⊥
 IsNoSignedData certificate der.TooLong = ⊥
 IsNoSignedData certificate der.Memory = ⊥
 
--- The certificate of the WIN_CERTIFICATE isn't signed data, and the error tells why.
+-- The certificate of the WIN_CERTIFICATE isn't signed data, and the error has the cause.
 pub record IsUnreadSignature (octets : List ℕ) (e : AuthenticodeError) : Type 0 where
   pub certificate : List ℕ
   pub named : contents_in octets ≡ Ok certificate
@@ -91,16 +90,16 @@ pub record IsUnreadSignature (octets : List ℕ) (e : AuthenticodeError) : Type 
 
 -- ---- rules
 
--- the rules of the parts that signed data of this form has: the digest of the file, and the
--- signature
+-- the rules for the parts of signed data of the form: the digest of the file, and the signature
 abbrev pub IsRefusedPart : Judge → SignedDataElements → List ℕ → Rule AuthenticodeError
 IsRefusedPart judge f file_hash e =
     (d : IndirectData) × (g : SignerElements) × HasIndirectData f d × IsFirstSigner f g
     × IsFirstBroken (FileDiffers f file_hash ∷ signing_rules judge f d g) e
 
--- ---- answers
+-- ---- results
 
--- Why the octets are refused for their header, or for what their certificate is.
+-- Why the octets are refused for their header, or for what their certificate is. It is never out of
+-- memory.
 abbrev pub RefusesValue : List ℕ → CheckError → Type 0
 RefusesValue octets (Win e) = contents_in octets ≡ Err e
 RefusesValue octets (Authenticode e) = IsUnreadSignature octets e

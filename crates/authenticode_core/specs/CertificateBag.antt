@@ -1,15 +1,15 @@
--- The certificates that signed data carries (RFC 5652 5.1, 10.2.3).
+-- The certificates that signed data contains (RFC 5652 5.1, 10.2.3).
 use Rattle.std.specs.Prelude.{◌≡◌, ◌⊎◌, List, [], ◌∷◌}
 use Rattle.der_core.specs.DerElement.{DerElement}
 use Rattle.der_core.specs.Structure.{Fits}
 use Rattle.x509_types.specs.CertificateElements.{CertificateElements, certificate_of, AreCertificateFields}
 
--- The member is the certificate of these elements, a SEQUENCE (RFC 5280 4.1).
+-- The member is the certificate with these elements, a SEQUENCE (RFC 5280 4.1).
 pub record IsMember (member : DerElement) (c : CertificateElements) : Type 0 where
   pub is : member ≡ certificate_of c
   pub fits : Fits AreCertificateFields c
 
--- The bag has the members that are certificates, in order, and no others.
+-- The bag has the certificates among the members, in order, and no others.
 abbrev pub IsBag : List DerElement → List CertificateElements → Type 0
 IsBag [] bag = bag ≡ []
 IsBag (member ∷ members) bag =

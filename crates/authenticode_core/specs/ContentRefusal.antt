@@ -1,4 +1,4 @@
--- What is answered for a header or signed data that is refused.
+-- How an error becomes one of signed data or of a signature file.
 use Rattle.asn1_types.specs.declared.error.CharSetError.{CharSetError}
 use Rattle.asn1_types.specs.declared.error.CharSetError.TheVariants as texts
 use Rattle.der_core.specs.declared.error.DerError.{DerError}
@@ -14,7 +14,7 @@ use Rattle.authenticode_core.specs.declared.error.AuthenticodeError.TheVariants 
 use Rattle.authenticode_core.specs.declared.error.CheckError.{CheckError}
 use Rattle.authenticode_core.specs.declared.error.CheckError.TheVariants.{Authenticode, Win, Memory}
 
--- the error for one of a header; want of memory is told as such, here and below
+-- the error for one of a header; out of memory is reported as such, here and below
 abbrev pub told_of_header : WinCertificateError → CheckError
 told_of_header headers.Memory = Memory
 told_of_header e = Win e

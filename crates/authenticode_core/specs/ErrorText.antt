@@ -19,37 +19,37 @@ use Rattle.authenticode_core.specs.declared.pkcs7_error.Pkcs7Error.TheVariants a
 use Rattle.authenticode_core.specs.declared.timestamp_error.TimestampError.{TimestampError}
 use Rattle.authenticode_core.specs.declared.timestamp_error.TimestampError.TheVariants as stamps
 
--- what is told of a digest of the file that isn't the one asked for
+-- the text for a digest of the file that isn't the expected one
 abbrev pub file_mismatch_text : List ℕ → List ℕ → List ℕ
 file_mismatch_text actual expected =
     codes "the signature is for a file with the digest " ++ encode_lower actual
     ++ codes ", but that of the file is " ++ encode_lower expected
 
--- what is told of a message digest that isn't that of the content
+-- the text for a message digest that isn't that of the content
 abbrev pub mismatch_text : List ℕ → List ℕ → List ℕ
 mismatch_text actual expected =
     codes "the signed message digest is " ++ encode_lower actual
     ++ codes ", but that of the content is " ++ encode_lower expected
 
--- what is told of an issuer and the contents octets of a serial number that no certificate has
+-- the text for an issuer, and a serial number given as contents octets, that no certificate has
 abbrev pub unnamed_text : DirectoryName → List ℕ → List ℕ
 unnamed_text issuer serial_number =
     codes "the signed data has no certificate of the issuer '" ++ name_text (sets_of issuer)
     ++ codes "' with the serial number " ++ encode_lower serial_number
 
--- what is told of signed data that isn't read or written
+-- why signed data isn't read or written
 abbrev pub pkcs7_error_text : Pkcs7Error → List ℕ
 pkcs7_error_text (pkcs7.Cert e) = cert_error_text e
 pkcs7_error_text pkcs7.Memory = codes "out of memory"
 
--- what is told of a time stamp that isn't given or put in
+-- why a time stamp isn't obtained or added
 abbrev pub timestamp_error_text : TimestampError → List ℕ
 timestamp_error_text (stamps.Pkcs7Error e) = pkcs7_error_text e
 timestamp_error_text (stamps.Asn1DerError e) = cert_error_text e
 timestamp_error_text stamps.TimestampTokenEmpty = codes "the token or the signed data has no signer"
 timestamp_error_text stamps.Memory = codes "out of memory"
 
--- what is told of signed data that is refused
+-- why signed data is refused
 abbrev pub content_error_text : AuthenticodeError → List ℕ
 content_error_text (contents.CertError e) = cert_error_text e
 content_error_text (contents.IncorrectVersion expected got) =
@@ -87,7 +87,7 @@ content_error_text (contents.Asn1DerError e) = der_error_text e
 content_error_text (contents.TimestampError e) = timestamp_error_text e
 content_error_text contents.Memory = codes "out of memory"
 
--- what is told of a signature file that is refused
+-- why a signature file is refused
 abbrev pub check_error_text : CheckError → List ℕ
 check_error_text (check.Win e) = error_text e
 check_error_text (check.Authenticode e) = content_error_text e

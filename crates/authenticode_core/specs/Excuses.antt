@@ -1,8 +1,8 @@
 -- Why the expiry of a signer's certificate is excused: a certificate for time stamping in the bag,
--- or a token that has one and whose first certificate is linked (Windows Authenticode Portable
--- Executable Signature Format). The signature and the time of a stamp aren't checked. An excuse
--- waives the not-after date of the signer's certificate alone: its issuer path is asked for as
--- without one.
+-- or a token with such a certificate whose first certificate is linked to its others (Windows
+-- Authenticode Portable Executable Signature Format). The signature and the time of a token aren't
+-- checked. An excuse waives the not-after date of the signer's certificate alone: its not-before
+-- date and its issuer path are checked as without an excuse.
 use Rattle.std.specs.Prelude.{◌≡◌, ◌⊎◌, ℕ, zero, suc, List, [], ◌∷◌, length, false}
 use Rattle.asn1_types.specs.declared.oids.TheConstants.{KP_LIFETIME_SIGNING, KP_TIME_STAMPING, RFC3161_COUNTER_SIGN}
 use Rattle.cms_types.specs.Pkcs7.{pkcs7}
@@ -31,13 +31,13 @@ use Rattle.authenticode_core.specs.declared.error.AuthenticodeError.{Authenticod
 use Rattle.authenticode_core.specs.declared.error.AuthenticodeError.TheVariants as errors
 use Rattle.authenticode_core.specs.declared.policy.Policy.{Policy}
 
--- some certificate of the bag names time stamping (RFC 5280 4.2.1.12)
+-- some certificate of the bag has the extended key usage time stamping (RFC 5280 4.2.1.12)
 abbrev pub NamesTimeStamping : List CertificateElements → Type 0
 NamesTimeStamping bag =
     (place : ℕ) × (c : CertificateElements) × StandsAt bag place c
     × NamesPurpose c KP_TIME_STAMPING.now
 
--- the certificate names lifetime signing: its signatures end with it
+-- the certificate has the extended key usage lifetime signing: its signatures end with it
 abbrev pub NamesLifetime : CertificateElements → Type 0
 NamesLifetime c = NamesPurpose c KP_LIFETIME_SIGNING.now
 
@@ -58,26 +58,26 @@ pub record HasToken (f t : SignedDataElements) : Type 0 where
   pub spelled : token ≡ pkcs7 value
   pub fields : t ≡ signed_data_elements value.signed_data
 
--- Some certificate of the token's bag names time stamping.
+-- Some certificate of the token's bag has the extended key usage time stamping.
 pub record IsForStamping (t : SignedDataElements) (bag : List CertificateElements) : Type 0 where
   pub is_bag : IsBagOf t bag
   pub named : NamesTimeStamping bag
 
--- so many places from one on
+-- this many indices, from one on
 abbrev pub places_from : ℕ → ℕ → List ℕ
 places_from place zero = []
 places_from place (suc count) = place ∷ places_from (suc place) count
 
--- the places of a bag without those of certificates with the subject of this one
+-- the indices of a bag without those of certificates with the subject of this one
 abbrev pub AreOthersThan : List CertificateElements → CertificateElements → List ℕ → Type 0
 AreOthersThan bag first places = AreOthers bag first.tbs.subject (places_from 0 (length bag)) places
 
--- no moment is asked for
+-- the window without a date
 abbrev pub any_time : Window
 any_time = record { date = dates.Absent; not_before = false; not_after = false }
 
--- The first certificate of the bag is linked to the others with another subject, in order, at
--- whatever time.
+-- The first certificate of the bag is linked to the others with another subject, in order, at any
+-- time.
 pub record IsLinkedToken (judge : Judge) (bag : List CertificateElements) : Type 0 where
   pub first : KeptCertificate
   pub stands : StandsAt bag 0 first.elements
@@ -85,7 +85,7 @@ pub record IsLinkedToken (judge : Judge) (bag : List CertificateElements) : Type
   pub others : AreOthersThan bag first.elements places
   pub linked : AreLinkedAt judge any_time bag first places
 
--- The first certificate of the bag isn't linked so.
+-- The first certificate of the bag isn't linked to these.
 pub record IsUnlinkedToken (judge : Judge) (bag : List CertificateElements)
     (e : CertError) : Type 0 where
   pub first : KeptCertificate
@@ -94,10 +94,10 @@ pub record IsUnlinkedToken (judge : Judge) (bag : List CertificateElements)
   pub others : AreOthersThan bag first.elements places
   pub unlinked : IsUnlinkedAt judge any_time bag first places e
 
--- ---- excuses of a certificate of a signer in a bag, which has expired
+-- ---- excuses for the signer's certificate in a bag, which has expired
 
--- A token stands beside the signature, some certificate of it names time stamping, and its first
--- one is linked.
+-- The signature has a token, some certificate of it has the extended key usage time stamping, and
+-- its first certificate is linked to the others.
 pub record IsStamped (judge : Judge) (f : SignedDataElements) : Type 0 where
   pub t : SignedDataElements
   pub has : HasToken f t
@@ -105,8 +105,10 @@ pub record IsStamped (judge : Judge) (f : SignedDataElements) : Type 0 where
   pub stamping : IsForStamping t bag
   pub linked : IsLinkedToken judge bag
 
--- There is this reason to excuse the expiry: the certificate doesn't name lifetime signing, and some
--- certificate of the bag names time stamping, or, where none does, a token stands there that does.
+-- There is this reason to excuse the expiry: the certificate doesn't have the extended key usage
+-- lifetime signing, and some certificate of the bag has time stamping; or none of the bag does, and
+-- the signature has a token with such a certificate, whose first certificate is linked to the
+-- others.
 abbrev pub HasReason : Judge → SignedDataElements → List CertificateElements → CertificateElements
     → Excuse → Type 0
 HasReason judge f bag c excuses.None = ⊥
@@ -114,28 +116,29 @@ HasReason judge f bag c excuses.Bag = (NamesLifetime c → ⊥) × NamesTimeStam
 HasReason judge f bag c excuses.Token =
     (NamesLifetime c → ⊥) × (NamesTimeStamping bag → ⊥) × IsStamped judge f
 
--- The expiry is excused, for this reason: the certificates of the issuer path, where a chain is
--- asked for, are one above the expired certificate, each of them valid as the policy asks.
+-- The expiry is excused, for this reason; and if the chain is checked, the path is the issuer path,
+-- a chain above the expired certificate, each of its certificates valid under the policy; else it
+-- is empty.
 pub record IsExcused (judge : Judge) (policy : Policy) (f : SignedDataElements)
     (bag : List CertificateElements) (signer : KeptCertificate) (path : List ℕ)
     (excuse : Excuse) : Type 0 where
   pub reason : HasReason judge f bag signer.elements excuse
   pub path_is : IsPathAsked policy.chain judge (window_of policy) bag signer path
 
--- no token stands there with a certificate that names time stamping
+-- the signature has no token with a certificate for time stamping
 abbrev pub IsUnstamped : SignedDataElements → Type 0
 IsUnstamped f =
     (t : SignedDataElements) (bag : List CertificateElements) → HasToken f t → IsForStamping t bag
     → ⊥
 
--- There is no reason, and nothing else is told: the certificate names lifetime signing, or none
--- names time stamping.
+-- There is no reason, and no other error: the certificate has the extended key usage lifetime
+-- signing, or no certificate of the bag or of a token has time stamping.
 abbrev pub HasNoExcuse : SignedDataElements → List CertificateElements → CertificateElements
     → Type 0
 HasNoExcuse f bag c = NamesLifetime c ⊎ ((NamesTimeStamping bag → ⊥) × IsUnstamped f)
 
--- A token stands there, some certificate of it names time stamping, and its first one isn't linked,
--- which the error tells.
+-- There is a token that could excuse the expiry, some certificate of it has the extended key usage
+-- time stamping, and its first certificate isn't linked to the others, for the cause in the error.
 pub record HasBadStamp (judge : Judge) (f : SignedDataElements) (bag : List CertificateElements)
     (c : CertificateElements) (e : AuthenticodeError) : Type 0 where
   pub mortal : NamesLifetime c → ⊥

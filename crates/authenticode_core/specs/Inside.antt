@@ -1,4 +1,4 @@
--- What serves private functions alone: no public clause cites it. In the order of the check.
+-- Definitions for private functions alone: no public clause cites them. In the order of the check.
 pub mod Form
 pub mod SigningSteps
 pub mod PolicySteps

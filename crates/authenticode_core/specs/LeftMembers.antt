@@ -5,13 +5,12 @@ use Rattle.der_core.specs.declared.kids.Kids.{Kids}
 use Rattle.x509_types.specs.CertificateElements.{CertificateElements}
 use Rattle.authenticode_core.specs.CertificateBag.{IsBag}
 
--- none where the field is left out
+-- none if the field is absent
 abbrev pub left_members : Option Kids → List DerElement
 left_members None = []
 left_members (Some kids) = kids.are.0
 
--- The bag of the members begins with the certificate, and goes on with the bag of those that are
--- left.
+-- The bag of the members is the certificate, then the bag of those that are left, which are fewer.
 pub record BeginsBag (members : List DerElement) (c : CertificateElements)
     (left : List DerElement) : Type 0 where
   pub fewer : length left < length members

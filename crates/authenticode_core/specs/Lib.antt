@@ -1,10 +1,12 @@
--- In the order of reading: what the public calls promise, then the rules that they rest on.
+-- In reading order: what the public calls promise, then the rules that this rests on.
 
--- Promises: when a signature file is accepted under a policy, and when signed data vouches for a digest.
+-- Promises: when a signature file is accepted under a policy, and when signed data vouches for a
+-- digest.
 pub mod Trusted
 pub mod Policy
 pub mod Basic
--- The certificates of signed data, the signer's index and the issuer walk, and how the cursors go over them.
+-- The certificates of signed data, the signer's index and the issuer walk, and how the cursors go
+-- over them.
 pub mod CertificateBag
 pub mod Places
 pub mod BagSigner
@@ -12,12 +14,12 @@ pub mod IssuerWalk
 pub mod LeftMembers
 pub mod BagCursor
 pub mod WalkCursor
--- Errors: what becomes of those of other crates, their texts and names.
+-- Errors: what those of other crates become, their texts and names.
 pub mod ContentRefusal
 pub mod StampRefusal
 pub mod ErrorText
 pub mod RefusalName
--- The plain form, of which `plain_form_is_judged` is the law.
+-- The plain form, whose law is `plain_form_is_judged`.
 pub mod PlainForm
 pub mod PlainFields
 pub mod Asn1
@@ -27,9 +29,9 @@ pub mod SigningRules
 pub mod SignerRules
 pub mod LinkedPath
 pub mod Excuses
--- What the rules look at.
+-- What the rules read.
 pub mod SignedFields
 pub mod Names
 pub mod SameElements
--- Inside: what serves private functions alone.
+-- Inside: definitions for private functions alone.
 pub mod Inside

@@ -39,13 +39,13 @@ plain_elements p = record {
   signers_infos = set (plain_signer_info p.signer ∷ []);
 }
 
--- the content: a portable executable, and the digest of it
+-- the content: a portable executable, and its digest
 abbrev pub plain_data : List ℕ → IndirectData
 plain_data file_hash =
     record { image = image_data; algorithm = algorithm identifiers.SHA256.now; digest = file_hash }
 
--- Signed data of these parts has the form that is asked for, with their digest of the file, and its
--- attributes hold the digest of the content.
+-- Signed data with these parts has the form, with their digest of the file, and its attributes have
+-- the digest of the content.
 pub record HasPlainFields (p : PlainParts) : Type 0 where
   pub form : HasForm (plain_elements p) (algorithm identifiers.SHA256.now) (plain_data p.file_hash)
       (plain_signer p.signer)
@@ -53,9 +53,8 @@ pub record HasPlainFields (p : PlainParts) : Type 0 where
   pub bound : HasMessageDigest (plain_signer p.signer)
       (digest_of SHA2_256 (digested_octets (plain_data p.file_hash)))
 
--- When signed data of the plain form is accepted: the digest of the file is the one that is asked
--- for, and the scheme accepts the signature over the attributes as a SET under the octets of the
--- key.
+-- When signed data of the plain form is accepted: the digest of the file is the expected one, and
+-- the scheme accepts the signature over the attributes as a SET under the octets of the key.
 pub record IsPlainlyAccepted (judge : Judge) (p : PlainParts) (file_hash : List ℕ) : Type 0 where
   pub digest : p.file_hash ≡ file_hash
   pub accepted : judge RsaSha256 p.certificate.tbs.key (plain_message p) p.signer.signature ≡ Accept

@@ -1,5 +1,5 @@
 -- The plain form of signed data: one signer with an RSA key and SHA-256, one certificate, three
--- signed attributes. Identifiers are the constants of `asn1_types::oids`, which
+-- signed attributes. OIDs are the constants of `asn1_types::oids`, which
 -- `asn1_types.specs.NamedIdentifiers` lists by name.
 use Rattle.std.specs.Prelude.{◌≡◌, ◌≢◌, ℕ, ◌≤◌, List, [], ◌∷◌, codes, Ok}
 use Rattle.asn1_types.specs.Elements.{integer_of, object_identifier_of}
@@ -16,7 +16,7 @@ use Rattle.asn1_types.specs.declared.oids.TheConstants as identifiers
 abbrev pub algorithm : List ℕ → DerElement
 algorithm oid = sequence (object_identifier_of oid ∷ null ∷ [])
 
--- a Name of one common name (RFC 5280 4.1.2.4)
+-- a Name with one common name (RFC 5280 4.1.2.4)
 abbrev pub plain_name : List ℕ → DerElement
 plain_name text =
     sequence (set
@@ -32,7 +32,7 @@ abbrev pub plain_public_key_info : List ℕ → DerElement
 plain_public_key_info key =
     sequence (algorithm identifiers.RSA_ENCRYPTION.now ∷ bit_octets key ∷ [])
 
--- what varies in the part of a certificate that is signed
+-- what varies in the signed part of a certificate
 pub record TbsParts : Type 0 where
   pub serial : List ℕ
   pub issuer : List ℕ
@@ -57,7 +57,7 @@ tbs_fields c =
     ∷ plain_public_key_info c.key
     ∷ []
 
--- a TBSCertificate of these fields
+-- a TBSCertificate with these fields
 abbrev pub plain_tbs_certificate : TbsParts → DerElement
 plain_tbs_certificate c =
     sequence (tbs_fields c)
@@ -98,11 +98,11 @@ plain_content_info file_hash =
     sequence (object_identifier_of identifiers.SPC_INDIRECT_DATA.now ∷
     context 0 (indirect_data file_hash ∷ []) ∷ [])
 
--- an Attribute of one value (RFC 5652 5.3)
+-- an Attribute with one value (RFC 5652 5.3)
 abbrev pub plain_attribute : List ℕ → DerElement → DerElement
 plain_attribute oid value = attribute_of oid (value ∷ [])
 
--- an SpcSpOpusInfo without a program's name, and with an address of no octets (Authenticode)
+-- an SpcSpOpusInfo without a program's name, and with an empty URL (Authenticode)
 abbrev pub no_program_name : DerElement
 no_program_name = sequence (context 1 (Primitive 0x80 [] ∷ []) ∷ [])
 
@@ -126,7 +126,7 @@ pub record SignerParts : Type 0 where
 abbrev pub plain_issuer_and_serial_number : List ℕ → List ℕ → DerElement
 plain_issuer_and_serial_number issuer serial = sequence (plain_name issuer ∷ integer_of serial ∷ [])
 
--- a SignerInfo of version 1, whose signature algorithm is named by its key's (RFC 2315 9.2)
+-- a SignerInfo of version 1, whose signature algorithm is that of its key (RFC 2315 9.2)
 abbrev pub signer_fields : SignerParts → List DerElement
 signer_fields s =
     integer_of (1 ∷ [])
@@ -137,7 +137,7 @@ signer_fields s =
     ∷ octet_string s.signature
     ∷ []
 
--- a SignerInfo of these fields
+-- a SignerInfo with these fields
 abbrev pub plain_signer_info : SignerParts → DerElement
 plain_signer_info s = sequence (signer_fields s)
 
@@ -159,11 +159,11 @@ signed_data_fields p =
     ∷ set (plain_signer_info p.signer ∷ [])
     ∷ []
 
--- a SignedData of these fields
+-- a SignedData with these fields
 abbrev pub plain_signed_data : PlainParts → DerElement
 plain_signed_data p = sequence (signed_data_fields p)
 
--- a ContentInfo of it (RFC 2315 7)
+-- a ContentInfo with signed data (RFC 2315 7)
 abbrev pub signed_content : PlainParts → DerElement
 signed_content p =
     sequence
@@ -173,7 +173,7 @@ signed_content p =
 abbrev pub IsDigit : ℕ → Type 0
 IsDigit c = (0x30 ≤ c) × (c ≤ 0x39)
 
--- the first moment of a year: YY0101000000Z
+-- the first second of a year: YY0101000000Z
 pub record IsNewYear (time : List ℕ) : Type 0 where
   pub tens : ℕ
   pub units : ℕ
@@ -193,7 +193,7 @@ pub record IsPlainPublicKey (element : DerElement) : Type 0 where
   pub integers : IsSomeInteger modulus × IsSomeInteger exponent
   pub written : element ≡ sequence (modulus ∷ exponent ∷ [])
 
--- the octets of an RSAPublicKey, which is an input of its own
+-- the octets of an RSAPublicKey, which the scheme gets as they are
 pub record IsPlainKey (key : List ℕ) : Type 0 where
   pub element : DerElement
   pub public_key : IsPlainPublicKey element
@@ -204,7 +204,7 @@ pub record IsPlainKey (key : List ℕ) : Type 0 where
 abbrev pub bound_contents : List ℕ → List ℕ
 bound_contents file_hash = encodings (row (image_data ∷ plain_digest_info file_hash ∷ []))
 
--- what the parts keep
+-- the rules for the parts
 pub record IsPlain (p : PlainParts) : Type 0 where
   pub issuer : p.signer.issuer ≡ p.certificate.tbs.issuer
   pub serial : p.signer.serial ≡ p.certificate.tbs.serial
@@ -214,14 +214,14 @@ pub record IsPlain (p : PlainParts) : Type 0 where
   pub key : IsPlainKey p.certificate.tbs.key
   pub bound : p.signer.message_digest ≡ sha256 (bound_contents p.file_hash)
 
--- The octets begin with a WIN_CERTIFICATE whose certificate is signed data of the plain form, with
--- these parts.
+-- The octets begin with a WIN_CERTIFICATE whose certificate encodes signed data of the plain form,
+-- with these parts.
 pub record IsPlainForm (octets : List ℕ) (p : PlainParts) : Type 0 where
   pub certificate : List ℕ
   pub named : contents_in octets ≡ Ok certificate
   pub spelled : IsPaddedEncoding certificate (signed_content p)
   pub plain : IsPlain p
 
--- What the signature is over: the signed attributes as a SET (RFC 2315 9.3).
+-- The octets that are signed: the signed attributes as a SET (RFC 2315 9.3).
 abbrev pub plain_message : PlainParts → List ℕ
 plain_message p = encoding (set (plain_attributes p.signer.message_digest))

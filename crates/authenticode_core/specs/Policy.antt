@@ -1,11 +1,11 @@
--- What is asked of a signature file.
+-- What is checked of a signature file.
 use Rattle.std.specs.Prelude.{None, true, false}
 use Rattle.x509_core.specs.declared.validator.ChainChecks.{ChainChecks}
 use Rattle.x509_core.specs.declared.window.DateCheck.TheVariants as dates
 use Rattle.x509_core.specs.declared.window.Window.{Window}
 use Rattle.authenticode_core.specs.declared.policy.Policy.{Policy}
 
--- all is asked, and no digest and no date are given
+-- all checks, without a digest or a date
 abbrev pub first_policy : Policy
 first_policy = record {
   basic = true;
@@ -17,11 +17,11 @@ first_policy = record {
   date = dates.Absent;
 }
 
--- what is asked of the validity of a certificate
+-- what is checked of the validity of a certificate
 abbrev pub window_of : Policy → Window
 window_of policy =
     record { date = policy.date; not_before = policy.not_before; not_after = policy.not_after }
 
--- what is asked of the certificate of a signer over those of its issuers: no root is
+-- what is checked of the signer's certificate and those of its issuers: no root is required
 abbrev pub policy_checks : Policy → ChainChecks
 policy_checks policy = record { window = window_of policy; chain = policy.chain; root = false }

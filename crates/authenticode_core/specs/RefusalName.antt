@@ -46,8 +46,8 @@ variant_name (contents.Asn1DerError e) = codes "Asn1DerError"
 variant_name (contents.TimestampError e) = codes "TimestampError"
 variant_name contents.Memory = codes "Memory"
 
--- the name of a refusal of the signed data: that of the variant, or of the error of certificates
--- that it holds
+-- the name of a refusal of the signed data: that of the variant, or of the certificate error that
+-- it wraps
 abbrev pub content_refusal_name : AuthenticodeError → List ℕ
 content_refusal_name (contents.CertError e) = cert_error_name e
 content_refusal_name e = variant_name e

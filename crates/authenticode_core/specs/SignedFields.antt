@@ -1,5 +1,5 @@
--- The fields of signed data that a check asks for, by the elements that stand for them (RFC 2315
--- 9.1, 9.2; Windows Authenticode Portable Executable Signature Format).
+-- The fields of signed data that a check reads, by their elements (RFC 2315 9.1, 9.2; Windows
+-- Authenticode Portable Executable Signature Format).
 use Rattle.std.specs.Prelude.{◌≡◌, ⊤, ℕ, List, [], ◌∷◌, ◌++◌, Option, Some}
 use Rattle.asn1_types.specs.Elements.{integer_of, object_identifier_of}
 use Rattle.asn1_types.specs.declared.oids.TheConstants.{MESSAGE_DIGEST, SPC_INDIRECT_DATA}
@@ -14,7 +14,7 @@ use Rattle.der_core.specs.DerElement.{DerElement}
 use Rattle.der_core.specs.Elements.{sequence, set, octet_string}
 use Rattle.der_core.specs.Encoding.{encoding}
 
--- the number of the version
+-- the version number
 abbrev pub HasVersion : SignedDataElements → ℕ → Type 0
 HasVersion f number = f.version ≡ integer_of (number ∷ [])
 
@@ -31,13 +31,13 @@ abbrev pub IsFirstAlgorithm : SignedDataElements → DerElement → Type 0
 IsFirstAlgorithm f algorithm =
     (others : List DerElement) × (digest_algorithms_of f ≡ algorithm ∷ others)
 
--- the content, where it isn't left out, with the contents octets of the identifier of its type
+-- the content, unless it is absent, with the contents octets of the OID of its type
 abbrev pub HasSignedContent : SignedDataElements → List ℕ → Option DerElement → Type 0
 HasSignedContent f content_type content =
     f.content_info ≡ content_info_of (object_identifier_of content_type) content
 
--- What varies in an SpcIndirectDataContent: what kind of file it is, the algorithm of the digest,
--- and the digest of the file.
+-- What varies in an SpcIndirectDataContent: what kind of file it is, the digest algorithm, and the
+-- digest of the file.
 pub record IndirectData : Type 0 where
   pub image : DerElement
   pub algorithm : DerElement
@@ -51,32 +51,32 @@ indirect_kids d = d.image ∷ sequence (d.algorithm ∷ octet_string d.digest �
 abbrev pub HasIndirectData : SignedDataElements → IndirectData → Type 0
 HasIndirectData f d = HasSignedContent f SPC_INDIRECT_DATA.now (Some (sequence (indirect_kids d)))
 
--- The first of the signers, whose element spells a value.
+-- The first signer, whose element encodes a value.
 pub record IsFirstSigner (f : SignedDataElements) (g : SignerElements) : Type 0 where
   pub value : SignerInfo
   pub others : List DerElement
   pub is : g ≡ signer_elements value
   pub first : signers_of f ≡ signer_info value ∷ others
 
--- the signed attributes: where they are left out there are none
+-- the signed attributes, none if the field is absent
 abbrev pub signed_attributes_of : SignerElements → List DerElement
 signed_attributes_of g = members_of g.signed_attrs
 
--- what a signer signs: its attributes as a SET, in the order that stands (RFC 2315 9.3)
+-- what a signer signs: its attributes as a SET, in the order in which they are (RFC 2315 9.3)
 abbrev pub signed_message : SignerElements → List ℕ
 signed_message g = encoding (set (signed_attributes_of g))
 
--- an attribute of this identifier, by its contents octets, with these values (RFC 5652 5.3)
+-- an attribute with this OID, given as contents octets, and these values (RFC 5652 5.3)
 abbrev pub IsAttributeOf : List ℕ → DerElement → List DerElement → Type 0
 IsAttributeOf oid element values = element ≡ attribute_of oid values
 
--- none of the elements is an attribute of this identifier
+-- none of the elements is an attribute with this OID
 abbrev pub NoneIsOf : List ℕ → List DerElement → Type 0
 NoneIsOf oid [] = ⊤
 NoneIsOf oid (element ∷ elements) =
     ((values : List DerElement) → IsAttributeOf oid element values → ⊥) × NoneIsOf oid elements
 
--- The first attribute of this identifier has these values.
+-- The first attribute with this OID has these values.
 pub record IsFirstAttribute (oid : List ℕ) (elements values : List DerElement) : Type 0 where
   pub before : List DerElement
   pub attribute : DerElement

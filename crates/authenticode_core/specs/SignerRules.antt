@@ -1,5 +1,5 @@
--- What the certificate of a signer has to be, where it is asked for, rule by rule, in their order
--- (RFC 5280 6.1; Windows Authenticode Portable Executable Signature Format).
+-- When the signer's certificate is vouched for, if it is checked, rule by rule, in order (RFC 5280
+-- 6.1; Windows Authenticode Portable Executable Signature Format).
 use Rattle.std.specs.Prelude.{◌≡◌, ℕ, List, [], ◌∷◌, Some, IsTrue}
 use Rattle.cms_types.specs.SignedDataElements.{SignedDataElements}
 use Rattle.cms_types.specs.SignerElements.{SignerElements}
@@ -24,13 +24,14 @@ use Rattle.authenticode_core.specs.declared.error.AuthenticodeError.{Authenticod
 use Rattle.authenticode_core.specs.declared.error.AuthenticodeError.TheVariants as errors
 use Rattle.authenticode_core.specs.declared.policy.Policy.{Policy}
 
--- The certificate of the first signer, as it is kept, stands at this place of the bag.
+-- The certificate of the first signer, as stored, is at this index of the bag.
 pub record IsKeptSigner (f : SignedDataElements) (bag : List CertificateElements) (place : ℕ)
     (signer : KeptCertificate) : Type 0 where
   pub is_bag : IsBagOf f bag
   pub is_signer : IsSignerCertificate f bag place signer.elements
 
--- without an excuse the certificate's validity hasn't ended; else it has, which is excused
+-- without an excuse the validity of the certificate hasn't ended; with one it has expired, which is
+-- excused
 abbrev pub LastsOrIsExcused : Judge → Policy → SignedDataElements → List CertificateElements
     → KeptCertificate → List ℕ → Excuse → Type 0
 LastsOrIsExcused judge policy f bag signer path excuses.None =
@@ -39,8 +40,8 @@ LastsOrIsExcused judge policy f bag signer path excuse =
     IsExpired (window_of policy) signer.elements
     × IsExcused judge policy f bag signer path excuse
 
--- The certificate of the signer is valid, and where a chain is asked for, the path is that of its
--- issuers, a chain above it. Its not-after date alone may be excused.
+-- The signer's certificate is valid, except that its not-after date, and no other rule, may be
+-- excused; and if the chain is checked, the path is its issuer path, a chain above it, else empty.
 pub record IsStanding (judge : Judge) (policy : Policy) (f : SignedDataElements)
     (bag : List CertificateElements) (signer : KeptCertificate) (path : List ℕ)
     (excuse : Excuse) : Type 0 where
@@ -48,8 +49,8 @@ pub record IsStanding (judge : Judge) (policy : Policy) (f : SignedDataElements)
   pub lasts : LastsOrIsExcused judge policy f bag signer path excuse
   pub path_is : IsPathAsked policy.chain judge (window_of policy) bag signer path
 
--- The certificate of the signer is vouched for: it stands at the place that is told, a date is
--- given where one is asked for, and it is valid or excused.
+-- The signer's certificate is vouched for: it is at the reported index, a date is given if dates
+-- are checked, and it is valid or its expiry excused, with the reported path and excuse.
 pub record IsSignerVouched (judge : Judge) (policy : Policy) (f : SignedDataElements)
     (a : Accepted) : Type 0 where
   pub bag : List CertificateElements
@@ -66,20 +67,20 @@ pub record IsSignerVouched (judge : Judge) (policy : Policy) (f : SignedDataElem
 abbrev pub LacksSigner : SignedDataElements → Rule AuthenticodeError
 LacksSigner f e = (signers_of f ≡ []) × (e ≡ errors.MultipleSignerInfo 0)
 
--- the first signer is named by the identifier of a key
+-- the first signer is identified by a key identifier
 abbrev pub HasKeyName : SignedDataElements → Rule AuthenticodeError
 HasKeyName f e = (g : SignerElements) × IsFirstSigner f g × IsNamedByKey g e
 
--- no certificate has the issuer and the serial number by which the first signer is named
+-- no certificate has the issuer and the serial number of the first signer
 abbrev pub HasUnknownName : SignedDataElements → Rule AuthenticodeError
 HasUnknownName f e = (g : SignerElements) × IsFirstSigner f g × HasNoCertificate f g e
 
--- dates are asked for, and none is given
+-- dates are checked, and none is given
 abbrev pub IsUndated : Policy → Rule AuthenticodeError
 IsUndated policy e =
     (cause : CertError) × LacksDate (policy_checks policy) cause × (e ≡ errors.CertError cause)
 
--- The certificate of the signer isn't valid, and hasn't expired.
+-- The signer's certificate isn't valid, and hasn't expired.
 pub record IsUnbegun (policy : Policy) (f : SignedDataElements)
     (e : AuthenticodeError) : Type 0 where
   pub bag : List CertificateElements
@@ -91,7 +92,7 @@ pub record IsUnbegun (policy : Policy) (f : SignedDataElements)
   pub outside : IsOutside (window_of policy) signer cause
   pub told : e ≡ errors.CertError cause
 
--- The certificate of the signer has expired, and there is no reason to excuse it.
+-- The signer's certificate has expired, and there is no reason to excuse it.
 pub record IsUnexcused (policy : Policy) (f : SignedDataElements)
     (e : AuthenticodeError) : Type 0 where
   pub bag : List CertificateElements
@@ -105,7 +106,7 @@ pub record IsUnexcused (policy : Policy) (f : SignedDataElements)
   pub told : e ≡ errors.CertError cause
 
 -- The signer's certificate has expired, and the first certificate of the token that would excuse it
--- isn't linked.
+-- isn't linked to the others.
 pub record IsBadlyStamped (judge : Judge) (policy : Policy) (f : SignedDataElements)
     (e : AuthenticodeError) : Type 0 where
   pub bag : List CertificateElements
@@ -122,8 +123,8 @@ IsValidOrExcusable judge policy f bag c excuses.None = IsWithinWindow (window_of
 IsValidOrExcusable judge policy f bag c excuse =
     IsExpired (window_of policy) c × HasReason judge f bag c excuse
 
--- The certificate of the signer is valid, or there is a reason to excuse its expiry; a chain is
--- asked for, and one of the issuer path isn't linked.
+-- The signer's certificate is valid, or there is a reason to excuse its expiry; the chain is
+-- checked, and a certificate of the issuer path isn't linked.
 pub record IsUnvouched (judge : Judge) (policy : Policy) (f : SignedDataElements)
     (e : AuthenticodeError) : Type 0 where
   pub bag : List CertificateElements
@@ -139,8 +140,8 @@ pub record IsUnvouched (judge : Judge) (policy : Policy) (f : SignedDataElements
   pub unlinked : IsUnlinkedAt judge (window_of policy) bag signer path cause
   pub told : e ≡ errors.CertError cause
 
--- The rules of the certificate of a signer, in their order. That of the issuer path is the last, of
--- an excused signer too.
+-- The rules for the signer's certificate, in order. That of the issuer path is the last, and holds
+-- for an excused signer too.
 abbrev pub signer_rules : Judge → Policy → SignedDataElements → List (Rule AuthenticodeError)
 signer_rules judge policy f =
     LacksSigner f ∷ HasKeyName f ∷ HasUnknownName f ∷ IsUndated policy ∷ IsUnbegun policy f ∷

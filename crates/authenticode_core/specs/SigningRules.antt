@@ -1,5 +1,5 @@
--- What the signature of the first signer has to be, rule by rule, in their order (RFC 2315 9.3,
--- 9.4; Windows Authenticode Portable Executable Signature Format).
+-- When the signature of the first signer is good, rule by rule, in order (RFC 2315 9.3, 9.4;
+-- Windows Authenticode Portable Executable Signature Format).
 use Rattle.std.specs.Prelude.{◌≡◌, ◌≢◌, ℕ, List, [], ◌∷◌, Contains}
 use Rattle.asn1_types.specs.Elements.{integer, object_identifier_of}
 use Rattle.asn1_types.specs.declared.integer.IntegerAsn1.{IntegerAsn1}
@@ -36,23 +36,23 @@ use Rattle.authenticode_core.specs.SignedFields.{HasMessageDigest, IndirectData,
 use Rattle.authenticode_core.specs.declared.error.AuthenticodeError.{AuthenticodeError}
 use Rattle.authenticode_core.specs.declared.error.AuthenticodeError.TheVariants as errors
 
--- the certificates that the signed data carries
+-- the certificates that the signed data contains
 abbrev pub IsBagOf : SignedDataElements → List CertificateElements → Type 0
 IsBagOf f bag = IsBag (members_of f.certificates) bag
 
--- the certificate of the first signer, and its place
+-- the certificate of the first signer, and its index
 abbrev pub IsSignerCertificate : SignedDataElements → List CertificateElements → ℕ
     → CertificateElements → Type 0
 IsSignerCertificate f bag place c = IsSignerPlace (signers_of f) bag place c
 
--- The algorithm is one of digests, by its identifier alone (RFC 8017 appendix B.1).
+-- The algorithm is a digest algorithm, by its OID alone (RFC 8017 appendix B.1).
 pub record NamesDigest (algorithm : DerElement) (hash : HashAlgorithm) : Type 0 where
   pub variant : ShaVariant
   pub parameters : List DerElement
   pub is : algorithm ≡ sequence (object_identifier_of (digest_identifier variant) ∷ parameters)
   pub named : hash ≡ hash_of variant
 
--- what is digested of indirect data: its contents octets
+-- the octets of indirect data that are digested: its contents octets
 abbrev pub digested_octets : IndirectData → List ℕ
 digested_octets d = encodings (row (indirect_kids d))
 
@@ -66,7 +66,7 @@ pub record HasSignatureBy (judge : Judge) (g : SignerElements) (hash : HashAlgor
   pub octets : g.signature ≡ octet_string signature
   pub accepted : Accepts judge (RsaPkcs1v15 hash) info (signed_message g) signature
 
--- some certificate of the issuer walk of the signer's has an extended key usage
+-- some certificate of the signer's issuer walk has an extended key usage
 pub record AsksForPurposes (bag : List CertificateElements)
     (signer : CertificateElements) : Type 0 where
   pub places : List ℕ
@@ -77,13 +77,13 @@ pub record AsksForPurposes (bag : List CertificateElements)
   pub stands : StandsAt bag place c
   pub purposes : HasPurposes c
 
--- where some certificate of its issuer walk has an extended key usage, the signer's names code
--- signing (RFC 5280 4.2.1.12)
+-- if some certificate of its issuer walk has an extended key usage, the signer's certificate has
+-- code signing (RFC 5280 4.2.1.12)
 abbrev pub IsForCodeSigning : List CertificateElements → CertificateElements → Type 0
 IsForCodeSigning bag signer = AsksForPurposes bag signer → NamesPurpose signer KP_CODE_SIGNING.now
 
--- The signature of the first signer is good: its certificate stands at this place, its key accepts
--- the signature over attributes that hold the digest of the indirect data, and it may sign code.
+-- The signature of the first signer is good: its certificate is at this index, its key accepts the
+-- signature over attributes that have the digest of the indirect data, and it may sign code.
 pub record IsSigned (judge : Judge) (f : SignedDataElements) (d : IndirectData) (g : SignerElements)
     (place : ℕ) : Type 0 where
   pub bag : List CertificateElements
@@ -99,12 +99,12 @@ pub record IsSigned (judge : Judge) (f : SignedDataElements) (d : IndirectData) 
 
 -- ---- rules, by what breaks them
 
--- the first signer is named by the identifier of a key
+-- the first signer is identified by a key identifier
 abbrev pub IsNamedByKey : SignerElements → Rule AuthenticodeError
 IsNamedByKey g e =
     (octets : List ℕ) × (g.sid ≡ Primitive 0x80 octets) × (e ≡ errors.IncorrectSignerIdentifier)
 
--- no certificate has the issuer and the serial number by which the first signer is named
+-- no certificate has the issuer and the serial number of the first signer
 pub record HasNoCertificate (f : SignedDataElements) (g : SignerElements)
     (e : AuthenticodeError) : Type 0 where
   pub issuer : DirectoryName
@@ -157,7 +157,7 @@ IsUnsupportedDigest g e =
     NamesDigest g.digest_algorithm SHA2_224
     × (e ≡ errors.UnsupportedHashAlgorithmError (record { algorithm = SHA2_224 }))
 
--- the first message digest is another one than that of the indirect data
+-- the first message digest isn't that of the indirect data
 pub record DigestDiffers (d : IndirectData) (g : SignerElements)
     (e : AuthenticodeError) : Type 0 where
   pub hash : HashAlgorithm
@@ -178,13 +178,13 @@ pub record IsNotForCodeSigning (f : SignedDataElements) (e : AuthenticodeError) 
   pub unnamed : NamesPurpose certificate KP_CODE_SIGNING.now → ⊥
   pub told : e ≡ errors.NoEKUCodeSigning
 
--- The rules of the signature, in their order.
+-- The rules of the signature, in order.
 abbrev pub signing_rules : Judge → SignedDataElements → IndirectData → SignerElements
     → List (Rule AuthenticodeError)
 signing_rules judge f d g =
     IsNamedByKey g ∷ HasNoCertificate f g ∷ HasUnknownDigest g ∷ IsBadlySigned judge f g ∷
     HasNoMessageDigest g ∷ IsUnsupportedDigest g ∷ DigestDiffers d g ∷ IsNotForCodeSigning f ∷ []
 
--- the error tells of the first broken rule, unless memory ran out
+-- the error reports the first broken rule, unless memory ran out
 abbrev pub RefusesAuthenticodeBy : List (Rule AuthenticodeError) → AuthenticodeError → Type 0
 RefusesAuthenticodeBy = RefusesByRules errors.Memory

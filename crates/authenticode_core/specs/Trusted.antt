@@ -1,4 +1,4 @@
--- When the signed data of a signature file is trusted under a policy, and what is answered.
+-- When the signed data of a signature file is trusted under a policy, and which result is returned.
 use Rattle.std.specs.Prelude.{◌≡◌, ⊤, ◌⊎◌, Bool, ℕ, List, [], ◌∷◌, ◌++◌, Option, Some, None, Result, Ok, Err, true, false, IsTrue}
 use Rattle.cms_types.specs.SignedDataElements.{SignedDataElements}
 use Rattle.der_core.specs.Rules.{Rule, IsFirstBroken}
@@ -15,8 +15,8 @@ use Rattle.authenticode_core.specs.declared.error.CheckError.{CheckError}
 use Rattle.authenticode_core.specs.declared.error.CheckError.TheVariants.{Win, Authenticode, Memory}
 use Rattle.authenticode_core.specs.declared.policy.Policy.{Policy}
 
--- Basic validation: a digest of the file is given, the signed data vouches for it, and the place of
--- the signer's certificate is told.
+-- Basic validation: a digest of the file is given, the signed data vouches for it, and the index of
+-- the signer's certificate is reported.
 pub record IsBasicallyVouched (judge : Judge) (file_hash : Option (List ℕ)) (f : SignedDataElements)
     (a : Accepted) : Type 0 where
   pub hash : List ℕ
@@ -25,17 +25,17 @@ pub record IsBasicallyVouched (judge : Judge) (file_hash : Option (List ℕ)) (f
   pub vouches : VouchesFor judge f hash place
   pub told : a.signer ≡ Some place
 
--- The signed data is trusted under the policy, and this is told of it.
+-- The signed data is trusted under the policy, and this is reported of it.
 pub record IsTrusted (judge : Judge) (policy : Policy) (f : SignedDataElements)
     (a : Accepted) : Type 0 where
   pub basic : IsTrue policy.basic → IsBasicallyVouched judge policy.file_hash f a
   pub signing : IsTrue policy.signing → IsSignerVouched judge policy f a
-  -- where the signer's certificate isn't asked for, no path and no excuse are told, and its place
+  -- if the signer's certificate isn't checked, no path and no excuse are reported, and its index
   -- only by basic validation
   pub pathless : policy.signing ≡ false → (a.path ≡ []) × (a.excuse ≡ excuses.None)
   pub placeless : policy.basic ≡ false → policy.signing ≡ false → a.signer ≡ None
 
--- ---- rules, in their order
+-- ---- rules, in order
 
 -- no digest of the file is given
 abbrev pub LacksHash : Option (List ℕ) → Rule AuthenticodeError
@@ -50,26 +50,27 @@ IsRefusedFor judge f file_hash e =
 abbrev pub shape_rules : SignedDataElements → Option (List ℕ) → List (Rule AuthenticodeError)
 shape_rules f file_hash = form_rules f ++ LacksHash file_hash ∷ []
 
--- The rules of basic validation, in their order.
+-- The rules of basic validation, in order.
 abbrev pub basic_rules : Judge → SignedDataElements → Option (List ℕ)
     → List (Rule AuthenticodeError)
 basic_rules judge f file_hash = shape_rules f file_hash ++ IsRefusedFor judge f file_hash ∷ []
 
--- these rules where they are asked for
+-- these rules if they are checked
 abbrev pub asked : Bool → List (Rule AuthenticodeError) → List (Rule AuthenticodeError)
 asked true rules = rules
 asked false rules = []
 
--- The rules of a policy: those of basic validation, then those of the certificate of the signer.
+-- The rules of a policy: those of basic validation, then those of the signer's certificate.
 abbrev pub policy_rules : Judge → Policy → SignedDataElements → List (Rule AuthenticodeError)
 policy_rules judge policy f =
     asked policy.basic (basic_rules judge f policy.file_hash)
     ++ asked policy.signing (signer_rules judge policy f)
 
--- ---- answers
+-- ---- results
 
--- Why the octets are refused for their header, for what their certificate is, or, where basic
--- validation is asked for, for the form of its signed data or since no digest of the file is given.
+-- Why the octets are refused for their header, for what their certificate is, or, if basic
+-- validation is checked, for the form of the signed data or a missing digest of the file. It is
+-- never out of memory.
 abbrev pub RefusesForm : Policy → List ℕ → CheckError → Type 0
 RefusesForm policy octets (Win e) = contents_in octets ≡ Err e
 RefusesForm policy octets (Authenticode e) =
@@ -78,7 +79,7 @@ RefusesForm policy octets (Authenticode e) =
     × IsFirstBroken (asked policy.basic (shape_rules f policy.file_hash)) e)
 RefusesForm policy octets Memory = ⊥
 
--- The answer: that the signed data is trusted; a refusal by its cause, the first in order; want of
+-- The result: that the signed data is trusted; a refusal with its cause, the first in order; out of
 -- memory.
 abbrev pub IsAnswer : Judge → Policy → List ℕ → Result Accepted CheckError → Type 0
 IsAnswer judge policy octets (Ok accepted) =

@@ -1,4 +1,4 @@
--- An issuer walk that is under way.
+-- An issuer walk in progress.
 use Rattle.std.specs.Prelude.{◌≡◌, Bool, true, false, ℕ, suc, List}
 use Rattle.der_core.specs.DerElement.{DerElement}
 use Rattle.der_core.specs.Encoding.{encoding}
@@ -8,15 +8,15 @@ use Rattle.authenticode_core.specs.Names.{HasSubject}
 use Rattle.authenticode_core.specs.Places.{StandsAt}
 use Rattle.authenticode_core.specs.declared.path.issuer_walk.IssuerWalk.{IssuerWalk}
 
--- The walk looks for a subject from a place of the bag on.
+-- The walk searches for a subject from an index of the bag on.
 pub record LooksFrom (walk : IssuerWalk) (bag : List CertificateElements) (from : ℕ)
     (subject : DerElement) : Type 0 where
   pub stands : StandsIn walk.bag bag
   pub place : walk.bag.place ≡ from
   pub octets : walk.subject.now ≡ encoding subject
 
--- The certificate at the place is one of the walk, which looks for its issuer behind it, or it
--- isn't, and the walk looks on for the subject.
+-- The certificate at the index is on the walk, which then searches for its issuer; or it isn't, and
+-- the walk still searches for the subject.
 abbrev pub GoesPast : IssuerWalk → List CertificateElements → ℕ → DerElement → CertificateElements
     → Bool → Type 0
 GoesPast walk bag from subject c true =
@@ -24,7 +24,7 @@ GoesPast walk bag from subject c true =
 GoesPast walk bag from subject c false =
     (HasSubject subject c → ⊥) × LooksFrom walk bag (suc from) subject
 
--- The next certificate of the bag stands where the walk looks from.
+-- The next certificate of the bag is at the index from which the walk searches.
 pub record StepsTo (walk : IssuerWalk) (bag : List CertificateElements) (from : ℕ)
     (subject : DerElement) (place : ℕ) (c : CertificateElements) (on_walk : Bool) : Type 0 where
   pub placed : place ≡ from

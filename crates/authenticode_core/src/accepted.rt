@@ -1,11 +1,11 @@
-//! What the check of a signature answers.
+//! The result of checking a signature.
 
 ghost use Rattle.std.specs.Prelude.{◌≡◌, ◌++◌, ◌∷◌, [], IfOk, OnOk, OnErr};
 
 use std::alloc::{AllocError, Global};
 use std::marker::Model;
 
-/// Places in a list of certificates, from 0.
+/// Indices in a list of certificates, from 0.
 #[derive(Debug, Drop)]
 pub struct Places {
     items: Vec<usize>,
@@ -20,7 +20,7 @@ impl Model for Places {
 }
 
 impl Places {
-    /// No places.
+    /// No indices.
     pub fn new(alloc: Global) -> Places
         ensures { result ≡ [] }
     {
@@ -29,7 +29,7 @@ impl Places {
         }
     }
 
-    /// Appends a place.
+    /// Appends an index.
     pub fn push(&mut self, item: usize) -> Result<(), AllocError>
         ensures ok { OnOk result (self.new ≡ self.old ++ item ∷ []) }
         ensures err { OnErr result (self.new ≡ self.old) }
@@ -38,7 +38,7 @@ impl Places {
         Ok(())
     }
 
-    /// The places in their order.
+    /// The indices in order.
     pub fn as_slice(&self) -> &[usize]
         ensures { result.now ≡ self.now }
     {
@@ -60,20 +60,23 @@ impl Places {
 pub enum Excuse {
     /// Nothing is excused.
     None,
-    /// A certificate of the signature is for time stamping.
+    /// A certificate in the bag has the extended key usage time stamping.
     Bag,
-    /// A time-stamp token stands beside the signature.
+    /// No certificate in the bag has it, but one in the time-stamp token has, and the token's first
+    /// certificate is linked to its others.
     Token,
 }
 
-/// What is said of a signature that is accepted.
+/// What is reported of an accepted signature.
 #[derive(Debug, Drop)]
 pub struct Accepted {
-    /// The index of the signer's certificate among the certificates.
+    /// The index of the signer's certificate in the bag, if basic validation or that certificate is
+    /// checked.
     pub signer: Option<usize>,
-    /// The indices of the certificates that vouch for the signer's.
+    /// The indices of the certificates of the issuer path, nearest first; none if the signer's
+    /// certificate or the chain isn't checked.
     pub path: Places,
-    /// Why an expired certificate of the signer is excused.
+    /// Why the expiry of the signer's certificate is excused.
     pub excuse: Excuse,
 }
 

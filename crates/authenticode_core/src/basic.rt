@@ -18,9 +18,10 @@ use der_core::{Octets, is_same};
 use sig_core::Scheme;
 use std::alloc::Global;
 
-/// Signed data vouches for the digest of the file that the policy has: the place of its signer's
-/// certificate. The first of these is answered that doesn't hold: its form; a digest is given; it
-/// is that of the content; the signature of its one signer is good by the scheme (`expect_signed`).
+/// Checks that signed data vouches for the policy's digest of the file, and returns the index of
+/// the signer's certificate. The first of these that fails is returned: its form; a digest is
+/// given; it is that in the content; the signature of its one signer is good by the scheme
+/// (`expect_signed`).
 pub(crate) fn expect_basic<S: Scheme>(
     alloc: Global,
     signed_data: &SignedView<'_>,
@@ -32,7 +33,8 @@ pub(crate) fn expect_basic<S: Scheme>(
         (IsVouchedAt (S.judge scheme.now) policy.now.file_hash (data_elements signed_data.now))
         (RefusesAuthenticodeBy (basic_rules (S.judge scheme.now) (data_elements signed_data.now)
         policy.now.file_hash)) }
-    // A refusal of the form comes whatever memory there is, and that no digest is given, too.
+    // A refusal of the form comes however much memory there is, and so does that of a missing
+    // digest.
     ensures shape { (e : AuthenticodeError)
         → IsFirstBroken (shape_rules (data_elements signed_data.now) policy.now.file_hash) e
         → result ≡ Err e }
@@ -44,8 +46,8 @@ pub(crate) fn expect_basic<S: Scheme>(
     expect_vouched(alloc, signed_data, &form, file_hash.as_slice(), scheme)
 }
 
-/// Signed data of the form vouches for the digest of the file: the place of its signer's
-/// certificate.
+/// Checks that signed data of the form vouches for the digest of the file, and returns the index of
+/// the signer's certificate.
 fn expect_vouched<'a, S: Scheme>(
     alloc: Global,
     signed_data: &SignedView<'a>,
@@ -65,7 +67,7 @@ fn expect_vouched<'a, S: Scheme>(
     expect_signed(alloc, signed_data, &form.signer, form.content.elem, scheme)
 }
 
-/// The digest of the file is another one than is asked for.
+/// The error that the digest of the file isn't the expected one.
 fn file_mismatch(alloc: Global, actual: &[u8], expected: &[u8]) -> AuthenticodeError
     ensures { OrMemory AuthenticodeError.Memory
         (λ e. e ≡ AuthenticodeError.FileHashMismatch actual.now expected.now) result }

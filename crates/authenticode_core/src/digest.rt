@@ -1,4 +1,4 @@
-//! The digest algorithm that a signer names.
+//! The digest algorithm of a signer.
 
 ghost use Rattle.std.specs.Prelude.{List, ℕ, MatchOption};
 ghost use Rattle.der_core.specs.DerElement.{DerElement};
@@ -11,7 +11,7 @@ use der_core::tag::{OBJECT_IDENTIFIER, SEQUENCE};
 use der_core::{Elem, Kids, leaf_at, whole_element};
 use sig_core::{HashAlgorithm, ShaVariant};
 
-/// The algorithm of digests that an AlgorithmIdentifier names, by its octets.
+/// The digest algorithm of an AlgorithmIdentifier, given as octets.
 pub(crate) fn digest_named(algorithm: &[u8]) -> Option<HashAlgorithm>
     ensures { (element : DerElement) → IsKept algorithm.now element → MatchOption result
         ((hash : HashAlgorithm) → NamesDigest element hash → ⊥)
@@ -22,7 +22,7 @@ pub(crate) fn digest_named(algorithm: &[u8]) -> Option<HashAlgorithm>
     Some(variant.hash())
 }
 
-/// The contents octets of the identifier in an AlgorithmIdentifier, by its octets.
+/// The contents octets of the OID in an AlgorithmIdentifier, given as octets.
 fn identifier_of(algorithm: &[u8]) -> Option<&[u8]>
     ensures { (element : DerElement) → IsKept algorithm.now element → MatchOption result
         ((oid : List ℕ) → IsOfIdentifier element oid → ⊥)
@@ -32,7 +32,7 @@ fn identifier_of(algorithm: &[u8]) -> Option<&[u8]>
     first_identifier(elem)
 }
 
-/// The contents octets of the identifier that stands first in a SEQUENCE.
+/// The contents octets of the OID that is the first element in a SEQUENCE.
 fn first_identifier<'a>(elem: Elem<'a>) -> Option<&'a [u8]>
     ensures { MatchOption result
         ((oid : List ℕ) → IsOfIdentifier elem.entry.is.0 oid → ⊥)

@@ -20,79 +20,79 @@ use thiserror::Error;
 use wincert_core::WinCertificateError;
 use x509_core::CertError;
 
-/// Why signed data is refused, in the order in which it is asked (Windows Authenticode Portable
-/// Executable Signature Format).
+/// Why signed data is refused, in the order of the checks (Windows Authenticode Portable Executable
+/// Signature Format).
 #[derive(Debug, Error)]
 pub enum AuthenticodeError {
-    /// The octets are no element, or no signed data; or the certificate of the signer isn't valid
-    /// or not vouched for. Never with want of memory.
+    /// The octets are no element, or not signed data; or the certificate of the signer isn't valid
+    /// or not vouched for. Never wraps `Memory`.
     CertError(CertError),
-    /// The version of the signed data is another one.
+    /// The version of the signed data isn't 1.
     IncorrectVersion {
         expected: u8,
         got: u8,
     },
-    /// There are so many signers, and not one.
+    /// The number of signers isn't one.
     MultipleSignerInfo {
         count: usize,
     },
-    /// There are so many digest algorithms, and not one.
+    /// The number of digest algorithms isn't one.
     IncorrectDigestAlgorithmsCount {
         incorrect_count: usize,
     },
-    /// The content is left out.
+    /// The content is absent.
     NoEncapsulatedContentInfo,
-    /// The content isn't what is signed in the place of a file.
+    /// The content isn't indirect data.
     NoSpcIndirectDataContent,
-    /// The digest algorithm of the content, or that of the signer, is another one than that of the
-    /// signed data.
+    /// The digest algorithm of the content, or that of the signer, isn't that of the signed data.
     DigestAlgorithmMismatch,
     /// No digest of the file is given.
     MissingExpectedFileHash,
-    /// The digest of the file in the content, `actual`, is another one than is asked for.
+    /// The digest of the file in the content, `actual`, isn't the expected one.
     FileHashMismatch {
         actual: Octets,
         expected: Octets,
     },
-    /// The signer is named by the identifier of a key, and not by an issuer and a serial number.
+    /// The signer is identified by a key identifier, not by an issuer and a serial number.
     IncorrectSignerIdentifier,
-    /// No certificate of the signed data has the issuer and the serial number that name the signer.
+    /// No certificate in the bag has the issuer and the serial number of the signer.
     NoCertificatesAssociatedWithIssuerAndSerialNumber {
         issuer: DirectoryName,
         serial_number: IntegerAsn1,
     },
     /// The digest algorithm of the signer isn't known.
     UnsupportedAlgorithmError(UnsupportedAlgorithmError),
-    /// The signature of the signer isn't accepted under its key. Never with want of memory.
+    /// The signature of the signer isn't accepted under its key. Never wraps `Memory`.
     SignatureError(SignatureError),
-    /// No message digest is among the signed attributes.
+    /// The signed attributes have no message digest.
     NoMessageDigest,
-    /// The digest algorithm of the signer is none that Authenticode has.
+    /// The digest algorithm of the signer is SHA-224.
     UnsupportedHashAlgorithmError(UnsupportedHashAlgorithmError),
     /// The message digest, `actual`, isn't the digest of the content.
     HashMismatch {
         actual: Octets,
         expected: Octets,
     },
-    /// The certificate of the signer isn't one for code signing.
+    /// The signer's certificate lacks the extended key usage code signing, and some certificate of
+    /// its issuer walk has an extended key usage.
     NoEKUCodeSigning,
     /// The signer's certificate has expired, and the first certificate of the token that would
-    /// excuse it isn't linked. Never wraps `Memory`.
+    /// excuse it isn't linked to the others. Never wraps `Memory`.
     InvalidTimestampCert(CertError),
     /// The name of a program has a character past U+FFFF.
     ProgramNameCharSet,
-    /// No certificate is there that could be the signer's.
+    /// No certificate could be the signer's.
     NoCertificates,
-    /// What is to be signed, or the signed data, has no encoding. Never with want of memory.
+    /// The octets to sign, or the signed data, have no encoding. Never wraps `Memory`.
     Asn1DerError(DerError),
-    /// No time stamp was given or put in. Never with want of memory.
+    /// No time stamp was obtained or added. Never wraps `Memory`.
     TimestampError(TimestampError),
-    /// No memory was left.
+    /// Out of memory.
     Memory,
 }
 
-/// Written out, so that dropping one is a call: else each function that drops one is proved through
-/// all its parts.
+/// By hand, so that dropping an error is a call: else each function that drops one is proved
+/// through all its parts.
 impl Drop for AuthenticodeError {
     fn drop(self) {
         match self {
@@ -138,7 +138,7 @@ impl Drop for AuthenticodeError {
 }
 
 impl AuthenticodeError {
-    /// The name of the variant, or that of the error of certificates that it holds.
+    /// The name of the variant, or of the certificate error that it wraps.
     fn name(&self, alloc: Global) -> Result<String, AllocError>
         ensures { IfOk result (λ name. string_bytes name ≡ content_refusal_name self.now) }
     {
@@ -255,7 +255,7 @@ impl fmt::Display for AuthenticodeError {
     }
 }
 
-/// The text of a digest of the file that isn't the one asked for.
+/// The text of `FileHashMismatch`.
 fn write_file_mismatch<W: fmt::Write>(
     actual: &[u8],
     expected: &[u8],
@@ -270,7 +270,7 @@ fn write_file_mismatch<W: fmt::Write>(
     write_hexadecimal(expected, f)
 }
 
-/// The text of a message digest that isn't that of the content.
+/// The text of `HashMismatch`.
 fn write_mismatch<W: fmt::Write>(
     actual: &[u8],
     expected: &[u8],
@@ -285,7 +285,7 @@ fn write_mismatch<W: fmt::Write>(
     write_hexadecimal(expected, f)
 }
 
-/// The text of an issuer and a serial number that no certificate has.
+/// The text of `NoCertificatesAssociatedWithIssuerAndSerialNumber`.
 fn write_unnamed<W: fmt::Write>(
     issuer: &DirectoryName,
     serial_number: &[u8],
@@ -304,16 +304,16 @@ fn write_unnamed<W: fmt::Write>(
 /// Why a signature file is refused.
 #[derive(Debug, Drop, Error)]
 pub enum CheckError {
-    /// The octets begin with no WIN_CERTIFICATE.
+    /// The octets don't begin with a WIN_CERTIFICATE.
     Win(WinCertificateError),
-    /// The signed data is refused. Never with want of memory.
+    /// The signed data is refused. Never wraps `Memory`.
     Authenticode(AuthenticodeError),
-    /// No memory was left.
+    /// Out of memory.
     Memory,
 }
 
 impl CheckError {
-    /// The name of the refusal, as a report prints it: that of the variant of the error within.
+    /// The name of the refusal, as a report prints it: that of the variant of the wrapped error.
     pub fn name(&self, alloc: Global) -> Result<String, AllocError>
         ensures { IfOk result (λ name. string_bytes name ≡ refusal_name self.now) }
     {
@@ -352,7 +352,7 @@ impl fmt::Display for CheckError {
     }
 }
 
-/// Want of memory is told as such.
+/// Out of memory becomes `Memory`.
 impl From<WinCertificateError> for CheckError {
     ghost from_gives = { λ error e. e ≡ told_of_header error };
 
@@ -364,7 +364,7 @@ impl From<WinCertificateError> for CheckError {
     }
 }
 
-/// Want of memory is told as such.
+/// Out of memory becomes `Memory`.
 impl From<AuthenticodeError> for CheckError {
     ghost from_gives = { λ error e. e ≡ told_of_content error };
 
@@ -384,7 +384,7 @@ impl From<AllocError> for CheckError {
     }
 }
 
-/// Want of memory is told as such.
+/// Out of memory becomes `Memory`.
 impl From<CertError> for AuthenticodeError {
     ghost from_gives = { λ error e. e ≡ of_certificates error };
 
@@ -396,7 +396,7 @@ impl From<CertError> for AuthenticodeError {
     }
 }
 
-/// Want of memory is told as such.
+/// Out of memory becomes `Memory`.
 impl From<SignatureError> for AuthenticodeError {
     ghost from_gives = { λ error e. e ≡ of_signatures error };
 
@@ -408,7 +408,7 @@ impl From<SignatureError> for AuthenticodeError {
     }
 }
 
-/// Want of memory is told as such.
+/// Out of memory becomes `Memory`.
 impl From<DerError> for AuthenticodeError {
     ghost from_gives = { λ error e. e ≡ of_der error };
 
@@ -420,7 +420,7 @@ impl From<DerError> for AuthenticodeError {
     }
 }
 
-/// Want of memory is told as such.
+/// Out of memory becomes `Memory`.
 impl From<CharSetError> for AuthenticodeError {
     ghost from_gives = { λ error e. e ≡ of_char_set error };
 

@@ -27,9 +27,9 @@ use std::alloc::Global;
 use x509_core::CertError;
 use x509_types::CertView;
 
-/// The reason to excuse the expiry of the certificate of a signer, if there is one. Its issuer path
-/// isn't looked at. Memory is taken only to link the certificates of a token, which are asked for
-/// last.
+/// The reason to excuse the expiry of the signer's certificate, if there is one. It waives the
+/// not-after date of that certificate alone; the issuer path isn't checked here. Only linking the
+/// certificates of a token, which comes last, allocates.
 pub(crate) fn excuse_of<S: Scheme>(
     alloc: Global,
     signed_data: &SignedView<'_>,
@@ -61,7 +61,8 @@ pub(crate) fn excuse_of<S: Scheme>(
     Ok(Some(Excuse::Token))
 }
 
-/// Whether some certificate of signed data names time stamping (RFC 5280 4.2.1.12).
+/// Whether some certificate of signed data has the extended key usage time stamping (RFC 5280
+/// 4.2.1.12).
 fn names_time_stamping(signed_data: &SignedView<'_>) -> bool
     ensures { (bag : List CertificateElements) → IsBagOf (data_elements signed_data.now) bag
         → IsTrue result ↔ NamesTimeStamping bag }
@@ -70,7 +71,8 @@ fn names_time_stamping(signed_data: &SignedView<'_>) -> bool
     bag.next_wanted(Wanted::Purpose(KP_TIME_STAMPING)).is_some()
 }
 
-/// The first certificate of a token, where some certificate of it names time stamping.
+/// The first certificate of a token, if some certificate of it has the extended key usage time
+/// stamping.
 fn first_of_stamping<'a>(token: &SignedView<'a>) -> Option<BagCertificate<'a>>
     ensures { MatchOption result
         ((bag : List CertificateElements) → IsForStamping (data_elements token.now) bag → ⊥)
@@ -79,12 +81,12 @@ fn first_of_stamping<'a>(token: &SignedView<'a>) -> Option<BagCertificate<'a>>
     if !names_time_stamping(token) {
         return None;
     }
-    // The bag is read to its end, so that it is known whose first certificate is answered.
+    // The bag is read to its end, so that it is known whose first certificate is returned.
     let _certificates = certificate_bag(token).count();
     certificate_bag(token).next()
 }
 
-/// The first certificate of a token is linked to the others with another subject.
+/// Checks that the first certificate of a token is linked to the others with another subject.
 fn expect_linked<S: Scheme>(
     alloc: Global,
     token: &SignedView<'_>,

@@ -1,5 +1,5 @@
-//! The form of signed data: its version, its one signer, its one digest algorithm, and what is
-//! signed in the place of a file. It takes no memory.
+//! The form of signed data: its version, its one signer, its one digest algorithm, and its indirect
+//! data. Nothing here allocates.
 
 ghost use Rattle.std.specs.Prelude.{◌≡◌, ◌≢◌, List, [], ◌∷◌, length, Some, MatchOption, MatchResult};
 ghost use Rattle.cms_types.specs.SignedView.{data_elements};
@@ -21,8 +21,8 @@ use der_core::{Elem, Kids, is_same, leaf_at, two_kids};
 /// The version of signed data (RFC 2315 9.1).
 const VERSION: u8 = 1;
 
-/// What is signed in the place of a file: its element, and in it the digest algorithm and the
-/// digest.
+/// Indirect data, which is signed in place of a file: its element, and the digest algorithm and the
+/// digest in it.
 #[derive(Clone, Copy)]
 pub(crate) struct Content<'a> {
     pub(crate) elem: Elem<'a>,
@@ -30,14 +30,14 @@ pub(crate) struct Content<'a> {
     pub(crate) digest: &'a [u8],
 }
 
-/// What is looked at of signed data that has the form.
+/// The content and the signer of signed data of the form.
 #[derive(Clone, Copy)]
 pub(crate) struct Form<'a> {
     pub(crate) content: Content<'a>,
     pub(crate) signer: SignerView<'a>,
 }
 
-/// Signed data has the form, or breaks its first rule so.
+/// Checks that signed data has the form, and returns the first rule that it breaks.
 pub(crate) fn expect_form<'a>(signed_data: &SignedView<'a>) -> Result<Form<'a>, AuthenticodeError>
     requires { AreSpelled (data_elements signed_data.now) }
     ensures { MatchResult result
@@ -57,7 +57,7 @@ pub(crate) fn expect_form<'a>(signed_data: &SignedView<'a>) -> Result<Form<'a>, 
     Ok(Form { content, signer })
 }
 
-/// The version is 1.
+/// Checks that the version is 1.
 fn expect_version(signed_data: &SignedView<'_>) -> Result<(), AuthenticodeError>
     ensures { MatchResult result
         (λ _. HasVersion (data_elements signed_data.now) 1)
@@ -105,7 +105,7 @@ fn one_algorithm<'a>(signed_data: &SignedView<'a>) -> Result<Elem<'a>, Authentic
     }
 }
 
-/// The content is what is signed in the place of a file.
+/// Checks that the content is indirect data.
 fn expect_content<'a>(signed_data: &SignedView<'a>) -> Result<Content<'a>, AuthenticodeError>
     requires { AreSpelled (data_elements signed_data.now) }
     ensures { MatchResult result
@@ -126,7 +126,7 @@ fn expect_content<'a>(signed_data: &SignedView<'a>) -> Result<Content<'a>, Authe
     }
 }
 
-/// The digest algorithm and the digest in what is signed in the place of a file.
+/// The digest algorithm and the digest in indirect data.
 fn indirect_data_in<'a>(elem: Elem<'a>) -> Option<Content<'a>>
     ensures { MatchOption result ((d : IndirectData) → elem.entry.is.0 ≢ sequence (indirect_kids d))
         (λ content. (image : DerElement)
@@ -144,7 +144,7 @@ fn indirect_data_in<'a>(elem: Elem<'a>) -> Option<Content<'a>>
     })
 }
 
-/// The one element in an element, or how many there are.
+/// The only element in an element, or the number of elements in it.
 fn only_within<'a>(elem: Elem<'a>) -> Result<Elem<'a>, usize>
     ensures { MatchResult result (λ only. members_of (Some elem.entry.is.0) ≡ only.is.0 ∷ [])
         (λ count. (length (members_of (Some elem.entry.is.0)) ≢ 1)
@@ -167,7 +167,7 @@ pub(crate) fn first_within<'a>(elem: Elem<'a>) -> Option<Elem<'a>>
     kids.next()
 }
 
-/// How many elements are in an element.
+/// The number of elements in an element.
 fn count_within(elem: Elem<'_>) -> usize
     ensures { result ≡ length (members_of (Some elem.entry.is.0)) }
 {

@@ -1,4 +1,4 @@
-//! Laws on signed data, and on the certificates that it carries.
+//! Laws on signed data, and on the certificates that it contains.
 
 ghost use Rattle.std.specs.Prelude.{◌≡◌, ◌↔◌, ℕ, List};
 ghost use Rattle.cms_types.specs.SignedDataElements.{SignedDataElements};
@@ -14,25 +14,25 @@ ghost use Rattle.authenticode_core.specs.Trusted.{IsTrusted};
 ghost use Rattle.authenticode_core.specs.declared.accepted.Accepted.{Accepted};
 ghost use Rattle.authenticode_core.specs.declared.policy.Policy.{Policy};
 
-/// Octets have one signed data at most, so there is the signed data that a signature file has.
+/// Octets have at most one signed data, so the signed data of a signature file is unique.
 pub fn one_signed_data()
     ensures { (octets : List ℕ) (f g : SignedDataElements)
         → HasSignedData octets f → HasSignedData octets g → f ≡ g }
 {}
 
-/// Of signed data that is trusted under a policy one thing is told.
+/// What is reported of signed data that is trusted under a policy is unique.
 pub fn one_acceptance()
     ensures { (judge : Judge) (policy : Policy) (f : SignedDataElements) (a b : Accepted)
         → IsTrusted judge policy f a → IsTrusted judge policy f b → a ≡ b }
 {}
 
-/// Members have one bag.
+/// Members have at most one bag.
 pub fn one_bag()
     ensures { (members : List DerElement) (a b : List CertificateElements) → IsBag members a
         → IsBag members b → a ≡ b }
 {}
 
-/// A certificate has one issuer walk in a bag, and one issuer path.
+/// A certificate has at most one issuer walk in a bag, and at most one issuer path.
 pub fn one_issuer_walk()
     ensures walk { (bag : List CertificateElements) (signer : CertificateElements) (a b : List ℕ)
         → IsIssuerWalk bag signer a → IsIssuerWalk bag signer b → a ≡ b }
@@ -40,10 +40,10 @@ pub fn one_issuer_walk()
         → IsIssuerPath bag signer a → IsIssuerPath bag signer b → a ≡ b }
 {}
 
-/// Signed data of the plain form has the shape, with the fields of the form; its form is the one
-/// that is asked for, and its attributes hold the digest of its content. It is vouched for exactly
-/// where the digest of the file is the one that is asked for and the scheme accepts the signature,
-/// with the only certificate as the signer's.
+/// Octets of the plain form have the signed data with its fields; that signed data has the form,
+/// and its attributes have the digest of its content. It is vouched for exactly if the digest of
+/// the file is the expected one and the scheme accepts the signature, with the only certificate as
+/// the signer's.
 pub fn plain_form_is_judged()
     ensures shape { (octets : List ℕ) (p : PlainParts) → IsPlainForm octets p
         → HasSignedData octets (plain_elements p) }

@@ -1,8 +1,8 @@
-//! Authenticode signatures: whether a signature file is trusted under a policy, and where the
-//! certificates, that of the signer and those of the issuers stand in signed data.
+//! Authenticode signatures: whether a signature file is trusted under a policy, and at which
+//! indices the signer's certificate and those of its issuers are.
 //!
 //! The modules follow the steps of the check: `value`, `form`, `digest`, `signature`, `signer`,
-//! `path`, `excuse`. `steps` has their order, `basic` that of basic validation.
+//! `path`, `excuse`. `steps` has their order, `basic` the order in basic validation.
 #![tactic(auto)]
 
 mod accepted;

@@ -1,4 +1,4 @@
-//! Whether certificates of a bag are a chain above one of them.
+//! Whether certificates in a bag are a chain above a certificate.
 
 ghost use Rattle.std.specs.Prelude.{◌≡◌, ◌++◌, ◌∷◌, [], ℕ, List, Option, None, IfOk, MatchResult, unwrap_or};
 ghost use Rattle.der_core.specs.Rules.{OrMemory};
@@ -27,8 +27,8 @@ use sig_core::Scheme;
 use std::alloc::{AllocError, Global};
 use x509_core::{Cert, CertError, DateCheck, Window};
 
-/// The certificate, kept with its octets. It is known to be one, so it is refused for want of
-/// memory alone.
+/// The certificate, stored with its octets. It is known to be one, so it is only refused when out
+/// of memory.
 pub(crate) fn kept(alloc: Global, named: &BagCertificate<'_>) -> Result<Cert, AllocError>
     ensures { IfOk result (λ cert. cert.elements ≡ view_elements named.now.certificate) }
 {
@@ -38,8 +38,7 @@ pub(crate) fn kept(alloc: Global, named: &BagCertificate<'_>) -> Result<Cert, Al
     }
 }
 
-/// The places of the issuer path of a certificate, where those that stand there are a chain above
-/// it.
+/// The indices of the issuer path of a certificate, if the certificates there are a chain above it.
 pub(crate) fn linked_path<S: Scheme>(
     alloc: Global,
     signed_data: &SignedView<'_>,
@@ -56,8 +55,8 @@ pub(crate) fn linked_path<S: Scheme>(
     linked_places(alloc, &signer, issuers, window, scheme)
 }
 
-/// The first certificate of a token's bag is linked to the others with another subject, in order,
-/// at whatever time.
+/// Checks that the first certificate of a token's bag is linked to the others with another subject,
+/// in order, at any time.
 pub(crate) fn expect_linked_token<S: Scheme>(
     alloc: Global,
     token: &SignedView<'_>,
@@ -74,8 +73,8 @@ pub(crate) fn expect_linked_token<S: Scheme>(
     Ok(())
 }
 
-/// The places of the certificates, where these are a chain above the checked one. Three
-/// certificates are kept at a time, however many there are.
+/// The indices of the certificates, if these are a chain above the checked one. Three certificates
+/// are stored at a time, however many there are.
 fn linked_places<S: Scheme>(
     alloc: Global,
     checked: &Cert,
@@ -97,8 +96,8 @@ fn linked_places<S: Scheme>(
     Ok(linking.into_places())
 }
 
-/// A chain above a certificate, as far as it is linked: the places of its certificates, the last of
-/// them, and how many there are, or the most of the type.
+/// A chain above a certificate, as far as it is linked: the indices of its certificates, the last
+/// of them, and their number, which saturates.
 #[derive(Drop)]
 struct Linking {
     places: Places,
@@ -118,14 +117,14 @@ impl Linking {
         }
     }
 
-    /// The places.
+    /// The indices.
     fn into_places(self) -> Places
         ensures { result ≡ self.places }
     {
         self.places
     }
 
-    /// The next certificate is linked to the last one.
+    /// Checks that the next certificate is linked to the last one, and appends it.
     fn go_on<S: Scheme>(
         &mut self,
         alloc: Global,
@@ -158,7 +157,7 @@ impl Linking {
     }
 }
 
-/// The certificate, kept, where it may have issued the child.
+/// The certificate, stored, if it may have issued the child.
 fn linked_parent<S: Scheme>(
     alloc: Global,
     child: &Cert,
@@ -189,7 +188,7 @@ fn nearest<'x>(checked: &'x Cert, last: &'x Option<Cert>) -> &'x Cert
     }
 }
 
-/// No moment is asked for.
+/// The window without a date.
 fn any_time() -> Window
     ensures { result ≡ any_time }
 {

@@ -13,10 +13,10 @@ use x509_core::CertError;
 /// Why signed data isn't read or written.
 #[derive(Debug, Drop, Error)]
 pub enum Pkcs7Error {
-    /// The octets are no element, or no signed data; or the value has no encoding. Never with want
-    /// of memory.
+    /// The octets are no element, or not signed data; or the value has no encoding. Never wraps
+    /// `Memory`.
     Cert(CertError),
-    /// No memory was left.
+    /// Out of memory.
     Memory,
 }
 

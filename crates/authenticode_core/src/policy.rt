@@ -1,4 +1,4 @@
-//! What is asked of a signature file.
+//! What is checked of a signature file.
 
 ghost use Rattle.std.specs.Prelude.{◌≡◌};
 ghost use Rattle.authenticode_core.specs.Policy.{policy_checks, first_policy};
@@ -7,29 +7,30 @@ use der_core::Octets;
 use std::alloc::Global;
 use x509_core::{ChainChecks, DateCheck, Window};
 
-/// What is asked of a signature file.
+/// What is checked of a signature file.
 #[derive(Debug, Drop)]
 pub struct Policy {
-    /// Whether basic validation is asked for: the form of the signed data, the digest of the file
-    /// and the signature.
+    /// Whether basic validation is checked: the form of the signed data, the digest of the file and
+    /// the signature.
     pub basic: bool,
-    /// The digest that the file is to have.
+    /// The expected digest of the file.
     pub file_hash: Option<Octets>,
-    /// Whether the certificate of the signer has to be valid, or its expiry excused. The next four
-    /// say what that takes.
+    /// Whether the signer's certificate must be valid or its expiry excused. The next four fields
+    /// say how.
     pub signing: bool,
-    /// Whether certificates have to be valid already.
+    /// Whether certificates must have begun to be valid.
     pub not_before: bool,
-    /// Whether certificates have to be valid still.
+    /// Whether certificates must not have expired. An excuse waives this for the signer's
+    /// certificate alone.
     pub not_after: bool,
-    /// Whether the certificate of the signer has to be linked to those of its issuers.
+    /// Whether the certificates of the issuer path must be linked to the signer's, excused or not.
     pub chain: bool,
-    /// The moments at which certificates have to be valid.
+    /// The date or interval for which certificates must be valid.
     pub date: DateCheck,
 }
 
 impl Policy {
-    /// All is asked, and no digest and no date are given. It takes no memory.
+    /// All checks, without a digest or a date. It doesn't allocate.
     pub fn new(_alloc: Global) -> Policy
         ensures { result ≡ first_policy }
     {
@@ -44,7 +45,7 @@ impl Policy {
         }
     }
 
-    /// What is asked of the certificate of a signer over those of its issuers. No root is.
+    /// What is checked of the signer's certificate and those of its issuers. No root is required.
     pub(crate) fn checks(&self) -> ChainChecks
         ensures { result ≡ policy_checks self.now }
     {

@@ -34,12 +34,13 @@ use sig_core::{HashAlgorithm, Scheme, UnsupportedAlgorithmError, UnsupportedHash
 use std::alloc::{AllocError, Global};
 use x509_types::CertView;
 
-/// The place of the certificate of the first signer, where the signature over its attributes is
-/// good, and they hold the digest of the indirect data, whose element is handed in. The first of
-/// these is answered that doesn't hold: some certificate is named; the digest algorithm is known;
-/// RSA with it is accepted over the attributes under the key of the certificate; a message digest
-/// stands among them; the digest algorithm isn't SHA-224; the message digest is the one of the
-/// indirect data's contents octets; the certificate may sign code.
+/// Checks that the signature of the first signer over its attributes is good, and that they have
+/// the digest of the indirect data, given as its element; returns the index of the signer's
+/// certificate. The first of these that fails is returned: the signer is identified by an issuer
+/// and a serial number, and some certificate has these; the digest algorithm is known; the scheme
+/// accepts RSA with it over the attributes under the key of the certificate; the attributes have a
+/// message digest; the digest algorithm isn't SHA-224; the message digest is that of the contents
+/// octets of the indirect data; the certificate may sign code.
 pub(crate) fn expect_signed<'a, S: Scheme>(
     alloc: Global,
     signed_data: &SignedView<'a>,
@@ -63,7 +64,7 @@ pub(crate) fn expect_signed<'a, S: Scheme>(
     Ok(named.certificate.place)
 }
 
-/// The certificate that the first signer names by its issuer and its serial number.
+/// The certificate with the issuer and the serial number of the first signer.
 pub(crate) fn expect_certificate<'a>(
     alloc: Global,
     signed_data: &SignedView<'a>,
@@ -84,7 +85,8 @@ pub(crate) fn expect_certificate<'a>(
     }
 }
 
-/// No certificate has this issuer, by its octets, and this serial number, by its contents octets.
+/// The error that no certificate has this issuer, given as octets, and this serial number, given as
+/// contents octets.
 fn no_certificate(alloc: Global, issuer: &[u8], serial_number: &[u8]) -> AuthenticodeError
     ensures { OrMemory errors.Memory (TellsName issuer.now serial_number.now) result }
 {
@@ -114,8 +116,8 @@ fn expect_known_digest(signer: &SignerView<'_>) -> Result<HashAlgorithm, Authent
     }
 }
 
-/// The signature over the attributes is one by the key of the certificate, by RSA with this digest
-/// (RFC 2315 9.4).
+/// Checks that the signature over the attributes is one by the key of the certificate, by RSA with
+/// this digest (RFC 2315 9.4).
 fn expect_signature<S: Scheme>(
     alloc: Global,
     signer: &SignerView<'_>,
@@ -156,8 +158,8 @@ fn key_of(alloc: Global, certificate: &CertView<'_>) -> Result<PublicKey, AllocE
     }
 }
 
-/// The first message digest of the signer is the digest of these octets, which isn't SHA-224 (RFC
-/// 2315 9.3).
+/// Checks that the first message digest of the signer is the digest of these octets, which isn't
+/// SHA-224 (RFC 2315 9.3).
 fn expect_message_digest(
     alloc: Global,
     signer: &SignerView<'_>,
@@ -184,7 +186,7 @@ fn expect_message_digest(
     Err(hash_mismatch(alloc, actual, digest))
 }
 
-/// The message digest is another one than the digest.
+/// The error that the message digest isn't the expected digest.
 fn hash_mismatch(alloc: Global, actual: &[u8], expected: Vec<u8>) -> AuthenticodeError
     ensures { OrMemory errors.Memory (λ e. e ≡ errors.HashMismatch actual.now expected.items)
         result }

@@ -40,11 +40,11 @@ use std::alloc::Global;
 use x509_core::{Cert, CertCause, CertError};
 use x509_types::CertView;
 
-/// The certificate of the first signer is vouched for under a policy. The first of these is
-/// answered that doesn't hold: there is a signer; some certificate is named; a date is given where
-/// one is asked for; the certificate is valid, or there is a reason to excuse its expiry; where a
-/// chain is asked for, the certificates of the issuer path are linked, of an excused signer too.
-/// The place of the certificate may be known.
+/// Checks that the certificate of the first signer is vouched for under a policy. The first of
+/// these that fails is returned: there is a signer; it is identified by an issuer and a serial
+/// number, and some certificate has these; a date is given if dates are checked; the certificate is
+/// valid, or there is a reason to excuse its expiry; if the chain is checked, the certificates of
+/// the issuer path are linked, excused signer or not. The index of the certificate may be known.
 pub(crate) fn expect_signer<S: Scheme>(
     alloc: Global,
     signed_data: &SignedView<'_>,
@@ -67,7 +67,7 @@ pub(crate) fn expect_signer<S: Scheme>(
     expect_standing(alloc, signed_data, &named, signer, policy, scheme)
 }
 
-/// The first of the signers.
+/// The first signer.
 fn expect_first<'a>(signed_data: &SignedView<'a>) -> Result<SignerView<'a>, AuthenticodeError>
     requires { AreSpelled (data_elements signed_data.now) }
     ensures { MatchResult result
@@ -80,8 +80,8 @@ fn expect_first<'a>(signed_data: &SignedView<'a>) -> Result<SignerView<'a>, Auth
     }
 }
 
-/// The certificate that the first signer names. Where its place is known, the bag isn't read to its
-/// end again.
+/// The certificate with the issuer and the serial number of the first signer. If its index is
+/// known, the bag isn't read to its end again.
 fn expect_named<'a>(
     alloc: Global,
     signed_data: &SignedView<'a>,
@@ -110,8 +110,9 @@ fn expect_named<'a>(
     }
 }
 
-/// The certificate of the signer is valid, or its expiry is excused; and those of the issuer path
-/// are linked where that is asked for. What is kept of it is handed in.
+/// Checks that the signer's certificate is valid, or its expiry excused, and that the certificates
+/// of the issuer path are linked if the chain is checked. The certificate is given both borrowed
+/// and stored.
 fn expect_standing<S: Scheme>(
     alloc: Global,
     signed_data: &SignedView<'_>,
@@ -146,8 +147,8 @@ fn expect_standing<S: Scheme>(
     })
 }
 
-/// The certificate of the signer is valid, or there is a reason to excuse its expiry. It is handed
-/// in twice, where its octets lie and as it is kept.
+/// Checks that the signer's certificate is valid, or that there is a reason to excuse its expiry.
+/// The certificate is given both borrowed and stored.
 fn expect_validity<S: Scheme>(
     alloc: Global,
     signed_data: &SignedView<'_>,
@@ -172,7 +173,7 @@ fn expect_validity<S: Scheme>(
     }
 }
 
-/// The places of the issuer path, where a chain is asked for, and else none.
+/// The indices of the issuer path if the chain is checked, else none.
 fn asked_path<S: Scheme>(
     alloc: Global,
     signed_data: &SignedView<'_>,
@@ -193,8 +194,8 @@ fn asked_path<S: Scheme>(
     linked_path(alloc, signed_data, signer, &checks.window, scheme)
 }
 
-/// The reason to excuse the expiry of the signer's certificate, where this error tells that it
-/// isn't valid.
+/// The reason to excuse the expiry of the signer's certificate, given the error that it isn't
+/// valid. Only an expired certificate is excused.
 fn expect_excuse<S: Scheme>(
     alloc: Global,
     signed_data: &SignedView<'_>,
@@ -222,7 +223,7 @@ fn expect_excuse<S: Scheme>(
     }
 }
 
-/// Whether an error tells of a certificate that has expired.
+/// Whether an error reports an expired certificate.
 fn tells_expiry(error: &CertError) -> bool
     ensures { IsTrue result ↔ TellsExpiry error.now }
 {

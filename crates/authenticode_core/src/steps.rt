@@ -1,5 +1,5 @@
-//! Whether a signature file is trusted under a policy: what its certificate is, then basic
-//! validation, then the certificate of the signer, each where it is asked for.
+//! Whether a signature file is trusted under a policy: its certificate is signed data, then basic
+//! validation, then the signer's certificate, each of these two if it is checked.
 
 ghost use Rattle.std.specs.Prelude.{◌≡◌, Err, Result, MatchResult};
 ghost use Rattle.cms_types.specs.SignedView.{data_elements, IsSignedView};
@@ -24,8 +24,8 @@ use sig_core::Scheme;
 use std::alloc::Global;
 
 /// Checks the signature in a WIN_CERTIFICATE under a policy (Windows Authenticode Portable
-/// Executable Signature Format): what its certificate is, then the steps of `check_signed_data`.
-/// The first rule that is broken is told.
+/// Executable Signature Format): that its certificate is signed data, then the steps of
+/// `check_signed_data`. The first rule that fails is returned.
 pub fn check_wincert<S: Scheme>(
     alloc: Global,
     bytes: &[u8],
@@ -33,25 +33,24 @@ pub fn check_wincert<S: Scheme>(
     scheme: &S,
 ) -> Result<Accepted, CheckError>
     ensures answer { IsAnswer (S.judge scheme.now) policy.now bytes.now result }
-    // A refusal of the header, of what the certificate is or of the form comes whatever memory
-    // there is.
+    // A refusal of the header, of what the certificate is, of the form or for a missing digest
+    // comes however much memory there is.
     ensures refused { (e : CheckError) → RefusesForm policy.now bytes.now e → result ≡ Err e }
-    // No other answer has its cause, want of memory aside.
+    // No other result has its cause, out of memory aside.
     ensures only { (other : Result Accepted CheckError)
         → IsAnswer (S.judge scheme.now) policy.now bytes.now other
         → AreOneUnlessMemory CheckError.Memory result other }
 {
-    // a law that the proof rests on; the call does nothing
+    // a law that the proof uses; the call does nothing
     one_first_fault();
     let signed_data = read_signed_data(bytes)?;
     let accepted = check_signed_data(alloc, &signed_data, policy, scheme)?;
     Ok(accepted)
 }
 
-/// Checks signed data under a policy: where basic validation is asked for, its form, the digest of
-/// the file and the signature of its signer; then, where that is asked for, the certificate of its
-/// first signer. The first rule that is broken is told. The signed data is what `SignedView::read`
-/// gives.
+/// Checks signed data under a policy: under basic validation, its form, the digest of the file and
+/// the signature of its signer; then, if that is checked, the certificate of its first signer. The
+/// first rule that fails is returned. The signed data must be what `SignedView::read` returned.
 pub fn check_signed_data<S: Scheme>(
     alloc: Global,
     signed_data: &SignedView<'_>,
@@ -63,7 +62,8 @@ pub fn check_signed_data<S: Scheme>(
         (IsTrusted (S.judge scheme.now) policy.now (data_elements signed_data.now))
         (RefusesAuthenticodeBy
         (policy_rules (S.judge scheme.now) policy.now (data_elements signed_data.now))) }
-    // A refusal of the form comes whatever memory there is, and that no digest is given, too.
+    // A refusal of the form comes however much memory there is, and so does that of a missing
+    // digest.
     ensures shape { (e : AuthenticodeError)
         → IsFirstBroken
         (asked policy.now.basic
@@ -81,7 +81,7 @@ pub fn check_signed_data<S: Scheme>(
     })
 }
 
-/// Basic validation, where it is asked for: the place of the signer's certificate.
+/// Basic validation, if it is checked: the index of the signer's certificate.
 fn basic_place<S: Scheme>(
     alloc: Global,
     signed_data: &SignedView<'_>,

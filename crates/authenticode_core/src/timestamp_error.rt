@@ -1,4 +1,4 @@
-//! Why a signature isn't stamped.
+//! Why a signature isn't timestamped.
 
 ghost use Rattle.std.specs.Prelude.{◌≡◌, Some};
 ghost use Rattle.authenticode_core.specs.ErrorText.{timestamp_error_text};
@@ -11,16 +11,16 @@ use std::fmt::{self, Display};
 use thiserror::Error;
 use x509_core::CertError;
 
-/// Why a signature isn't stamped.
+/// Why a signature isn't timestamped.
 #[derive(Debug, Drop, Error)]
 pub enum TimestampError {
-    /// The token isn't signed data. Never with want of memory.
+    /// The token isn't signed data. Never wraps `Memory`.
     Pkcs7Error(Pkcs7Error),
-    /// A request, or the signer of the token, has no encoding. Never with want of memory.
+    /// A request, or the signer of the token, has no encoding. Never wraps `Memory`.
     Asn1DerError(CertError),
     /// The token, or the signed data, has no signer.
     TimestampTokenEmpty,
-    /// No memory was left.
+    /// Out of memory.
     Memory,
 }
 
@@ -39,7 +39,7 @@ impl fmt::Display for TimestampError {
     }
 }
 
-/// Want of memory is told as such.
+/// Out of memory becomes `Memory`.
 impl From<CertError> for TimestampError {
     ghost from_gives = { λ error e. e ≡ stamp_refusal error };
 
@@ -51,7 +51,7 @@ impl From<CertError> for TimestampError {
     }
 }
 
-/// Want of memory is told as such.
+/// Out of memory becomes `Memory`.
 impl From<Pkcs7Error> for TimestampError {
     ghost from_gives = { λ error e. e ≡ token_refusal error };
 

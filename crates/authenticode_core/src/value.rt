@@ -1,4 +1,4 @@
-//! The signed data in a WIN_CERTIFICATE, where its octets lie.
+//! The signed data in a WIN_CERTIFICATE, borrowed.
 
 ghost use Rattle.std.specs.Prelude.{◌≡◌, ◌↔◌, IsTrue, MatchResult};
 ghost use Rattle.der_core.specs.DerElement.{DerElement};
@@ -18,7 +18,7 @@ use x509_core::CertError;
 /// The most zeros that align a WIN_CERTIFICATE.
 const MOST_PADDING: usize = 7;
 
-/// The signed data in a WIN_CERTIFICATE. It takes no memory.
+/// The signed data in a WIN_CERTIFICATE. It doesn't allocate.
 pub(crate) fn read_signed_data<'a>(bytes: &'a [u8]) -> Result<SignedView<'a>, CheckError>
     ensures { MatchResult result
         (λ found. (element : DerElement) × LiesIn bytes.now element found)
@@ -38,7 +38,7 @@ pub(crate) fn read_signed_data<'a>(bytes: &'a [u8]) -> Result<SignedView<'a>, Ch
     }
 }
 
-/// Why a certificate isn't signed data.
+/// The error for a certificate that isn't signed data.
 fn unread(source: DerError) -> CheckError
     ensures { result ≡ CheckError.Authenticode
         (AuthenticodeError.CertError (CertError.Asn1Deserialization Element.Pkcs7 source)) }
@@ -49,9 +49,9 @@ fn unread(source: DerError) -> CheckError
     }))
 }
 
-/// The element that octets are, with the zeros after it that align a WIN_CERTIFICATE: at most seven
-/// (PE format, "The Attribute Certificate Table"). Else the first fault, or `Trailing` at the first
-/// octet after the element. It takes no memory.
+/// Reads an element and the zeros after it that align a WIN_CERTIFICATE, at most seven (PE format,
+/// "The Attribute Certificate Table"). Returns the first fault otherwise, or `Trailing` at the
+/// first octet after the element. It doesn't allocate.
 pub fn padded_element(octets: &[u8]) -> Result<Elem<'_>, Malformed>
     ensures { MatchResult result
         (λ elem. IsPaddedEncoding octets.now elem.is.0)

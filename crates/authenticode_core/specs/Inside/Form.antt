@@ -1,4 +1,4 @@
--- What is looked at of signed data that has the form, where its octets lie.
+-- The parts of signed data of the form that are read, borrowed.
 use Rattle.std.specs.Prelude.{◌≡◌, ℕ, List, Ok}
 use Rattle.cms_types.specs.SignedData.{signed_data_elements}
 use Rattle.cms_types.specs.SignedDataElements.{SignedDataElements}
@@ -27,7 +27,7 @@ pub record LiesIn (octets : List ℕ) (element : DerElement) (view : SignedView)
   pub spelled : IsPaddedEncoding certificate element
   pub is : IsSignedView element view
 
--- The content is indirect data, whose algorithm and digest lie there.
+-- The content is indirect data, with this element, algorithm and digest.
 pub record IsIndirectContent (f : SignedDataElements) (d : IndirectData)
     (content : Content) : Type 0 where
   pub has : HasIndirectData f d
@@ -35,7 +35,7 @@ pub record IsIndirectContent (f : SignedDataElements) (d : IndirectData)
   pub algorithm : content.algorithm.is.0 ≡ d.algorithm
   pub digest : content.digest.now ≡ d.digest
 
--- The signed data has the form, and its content and its signer lie there.
+-- The signed data has the form, with this content and this signer.
 pub record IsFormOf (f : SignedDataElements) (form : Form) : Type 0 where
   pub algorithm : DerElement
   pub d : IndirectData

@@ -1,4 +1,4 @@
--- A chain above a certificate that is linked place by place.
+-- A chain above a certificate, linked one index at a time.
 use Rattle.std.specs.Prelude.{◌≡◌, ℕ, List, length, unwrap_or}
 use Rattle.der_core.specs.Rules.{IsFirstBroken}
 use Rattle.key_core.specs.Verifying.{Judge}
@@ -11,8 +11,8 @@ use Rattle.x509_types.specs.CertificateElements.{CertificateElements}
 use Rattle.authenticode_core.specs.LinkedPath.{StandAt}
 use Rattle.authenticode_core.specs.declared.path.Linking.{Linking}
 
--- The certificates at the places so far are a chain above the checked one, the last of them is
--- kept, and they are counted.
+-- The certificates at the indices so far are a chain above the checked one, the last of them is
+-- stored, and they are counted.
 pub record IsLinkedSoFar (judge : Judge) (w : Window) (bag : List CertificateElements)
     (checked : KeptCertificate) (so_far : Linking) : Type 0 where
   pub below : List KeptCertificate
@@ -31,13 +31,13 @@ pub record IsBrokenNext (judge : Judge) (w : Window) (bag : List CertificateElem
   pub broken : IsFirstBroken
       (link_rules judge w (length chain.below) parent (last_of checked chain.below)) e
 
--- The certificate with these fields is kept, and may have issued the child.
+-- The certificate with these fields is stored, and may have issued the child.
 pub record IsNextLink (judge : Judge) (w : Window) (count : ℕ) (child : KeptCertificate)
     (c : CertificateElements) (parent : KeptCertificate) : Type 0 where
   pub is : parent.elements ≡ c
   pub link : IsLink judge w count parent.elements child.elements
 
--- It may not, which the error tells.
+-- It may not, and the error reports the first broken rule.
 pub record IsNoLink (judge : Judge) (w : Window) (count : ℕ) (child : KeptCertificate)
     (c : CertificateElements) (e : CertError) : Type 0 where
   pub parent : KeptCertificate

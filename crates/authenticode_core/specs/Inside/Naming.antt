@@ -1,4 +1,4 @@
--- The certificate of a signer, where its octets lie.
+-- The signer's certificate, borrowed.
 use Rattle.std.specs.Prelude.{◌≡◌, ◌↔◌, Bool, true, false, ◌⊎◌, ℕ, List, Option, Some, None, IsTrue}
 use Rattle.x509_types.specs.CertificateElements.{CertificateElements}
 use Rattle.x509_types.specs.CertificateView.{view_elements}
@@ -10,13 +10,13 @@ use Rattle.authenticode_core.specs.declared.signer.bag.BagCertificate.{BagCertif
 use Rattle.authenticode_core.specs.declared.signer.naming.Named.{Named}
 use Rattle.authenticode_core.specs.declared.signer.wanted.Wanted.{Wanted}
 
--- the certificate is the first one of the bag that is named so
+-- the certificate is the first one of the bag with this issuer and serial number
 abbrev pub IsFirstOfName : List CertificateElements → List ℕ → List ℕ → CertificateElements → Type 0
 IsFirstOfName bag issuer serial_number c =
     (place : ℕ) × IsLeastPlace bag (IsNamedBy issuer serial_number) 0 place c
 
--- The certificate stands at the least place of one that is named so, and what its issuer walk asks
--- for is known.
+-- The certificate is at the least index of one with this issuer and serial number, and it is known
+-- whether its issuer walk has an extended key usage.
 pub record IsNamedAt (bag : List CertificateElements) (issuer serial_number : List ℕ)
     (named : Named) : Type 0 where
   pub least : IsLeastPlace bag (IsNamedBy issuer serial_number) 0 named.certificate.place
@@ -24,9 +24,9 @@ pub record IsNamedAt (bag : List CertificateElements) (issuer serial_number : Li
   pub asks : IsTrue named.asks_for_purposes
       ↔ AsksForPurposes bag (view_elements named.certificate.certificate)
 
--- ---- a bag that is read certificate by certificate
+-- ---- a bag, read one certificate at a time
 
--- what was found before, or else the next certificate where it is wanted
+-- what was found before, or else the next certificate if it is wanted
 abbrev pub FindsNext : Wanted → Option BagCertificate → BagCertificate → Option BagCertificate
     → Type 0
 FindsNext wanted (Some found) next result = result ≡ Some found
@@ -34,7 +34,8 @@ FindsNext wanted None next None = IsWanted wanted (view_elements next.certificat
 FindsNext wanted None next (Some found) =
     (found ≡ next) × IsWanted wanted (view_elements next.certificate)
 
--- whether one asked before, or this one of the walk does
+-- whether an earlier certificate of the walk has an extended key usage, or this one, if it is on
+-- the walk
 abbrev pub AsksNext : Bool → Bool → CertificateElements → Bool → Type 0
 AsksNext asks true c result = IsTrue result ↔ (IsTrue asks ⊎ HasPurposes c)
 AsksNext asks false c result = result ≡ asks

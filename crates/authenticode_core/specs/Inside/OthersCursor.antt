@@ -1,4 +1,5 @@
--- Certificates of an issuer walk, or of a bag, without those of a subject, that are still to come.
+-- The certificates of an issuer walk, or of a bag, without those with a given subject, that are
+-- still to come.
 use Rattle.std.specs.Prelude.{◌≡◌, ℕ, ◌+◌, List, ◌∷◌, length}
 use Rattle.der_core.specs.DerElement.{DerElement}
 use Rattle.der_core.specs.Encoding.{encoding}
@@ -15,7 +16,7 @@ use Rattle.authenticode_core.specs.declared.path.others.Source.{Source}
 use Rattle.authenticode_core.specs.declared.path.others.Source.TheVariants as sources
 use Rattle.authenticode_core.specs.declared.signer.bag.Bag.{Bag}
 
--- The walk goes on over these places.
+-- The rest of the walk has these indices.
 pub record WalksOver (walk : IssuerWalk) (bag : List CertificateElements)
     (places : List ℕ) : Type 0 where
   pub from : ℕ
@@ -23,19 +24,19 @@ pub record WalksOver (walk : IssuerWalk) (bag : List CertificateElements)
   pub looks : LooksFrom walk bag from subject
   pub walks : IsWalkFrom bag from subject places
 
--- The places are those from where the cursor stands to the last of the bag.
+-- The indices are those from the cursor's to the last of the bag.
 pub record GoesOver (cursor : Bag) (bag : List CertificateElements) (places : List ℕ) : Type 0 where
   pub stands : StandsIn cursor bag
   pub count : ℕ
   pub counted : cursor.place + count ≡ length bag
   pub are : places ≡ places_from cursor.place count
 
--- the certificates that the source still gives stand at these places
+-- the certificates that the source still yields are at these indices
 abbrev pub GivesPlaces : Source → List CertificateElements → List ℕ → Type 0
 GivesPlaces (sources.Walk walk) bag places = WalksOver walk bag places
 GivesPlaces (sources.Bag cursor) bag places = GoesOver cursor bag places
 
--- The certificates that are left stand at these places: those of the source without those with the
+-- The certificates that are left are at these indices: those of the source without those with the
 -- subject.
 pub record AreLeft (cursor : Others) (bag : List CertificateElements)
     (places : List ℕ) : Type 0 where
@@ -45,7 +46,7 @@ pub record AreLeft (cursor : Others) (bag : List CertificateElements)
   pub gives : GivesPlaces cursor.source bag given
   pub others : AreOthers bag subject given places
 
--- The certificate stands at the first of the places, and these are behind it.
+-- The certificate is at the first of the indices, and the others follow it.
 pub record IsFirstOf (bag : List CertificateElements) (places : List ℕ) (place : ℕ)
     (c : CertificateElements) (behind : List ℕ) : Type 0 where
   pub are : places ≡ place ∷ behind

@@ -1,4 +1,4 @@
--- What the steps of a check under a policy answer, each by itself.
+-- The results of the steps of a check under a policy, each on its own.
 use Rattle.std.specs.Prelude.{◌≡◌, Bool, ℕ, List, [], ◌∷◌, ◌++◌, Option, Some, None, true, false}
 use Rattle.asn1_types.specs.declared.generalized_time.GeneralizedTime.{GeneralizedTime}
 use Rattle.cms_types.specs.SignedDataElements.{SignedDataElements}
@@ -20,12 +20,12 @@ use Rattle.authenticode_core.specs.declared.error.AuthenticodeError.{Authenticod
 use Rattle.authenticode_core.specs.declared.policy.Policy.{Policy}
 
 -- a digest of the file is given, and the signed data vouches for it with the signer's certificate
--- at this place
+-- at this index
 abbrev pub IsVouchedAt : Judge → Option (List ℕ) → SignedDataElements → ℕ → Type 0
 IsVouchedAt judge file_hash f place =
     (hash : List ℕ) × (file_hash ≡ Some hash) × VouchesFor judge f hash place
 
--- where basic validation is asked for, its place is told; else none is
+-- if basic validation is checked, its index is reported; else none is
 abbrev pub IsPlaceAsked : Bool → Judge → Option (List ℕ) → SignedDataElements → Option ℕ → Type 0
 IsPlaceAsked true judge file_hash f told =
     (place : ℕ) × IsVouchedAt judge file_hash f place × (told ≡ Some place)
@@ -37,7 +37,7 @@ IsExpiry cause =
     (not_after : GeneralizedTime) × (now : GeneralizedTime)
     × (cause ≡ causes.CertificateExpired not_after now)
 
--- the error tells of a certificate that has expired
+-- the error reports a certificate that has expired
 abbrev pub TellsExpiry : CertError → Type 0
 TellsExpiry e =
     (id : DirectoryName) × (cause : CertCause) × IsExpiry cause
@@ -49,13 +49,12 @@ abbrev pub IsUnlinkedPath : Judge → Window → List CertificateElements → Ke
 IsUnlinkedPath judge w bag signer e =
     (path : List ℕ) × IsIssuerPath bag signer.elements path × IsUnlinkedAt judge w bag signer path e
 
--- the rules by which the certificate of the signer is valid or there is a reason to excuse it, in
--- their order
+-- the rules by which the signer's certificate is valid or there is a reason to excuse its expiry,
+-- in order
 abbrev pub validity_rules : Judge → Policy → SignedDataElements → List (Rule AuthenticodeError)
 validity_rules judge policy f =
     IsUnbegun policy f ∷ IsUnexcused policy f ∷ IsBadlyStamped judge policy f ∷ []
 
--- the rules of the certificate of the signer where it is known and the dates are given, in their
--- order
+-- the rules for the signer's certificate once it is known and the dates are given, in order
 abbrev pub standing_rules : Judge → Policy → SignedDataElements → List (Rule AuthenticodeError)
 standing_rules judge policy f = validity_rules judge policy f ++ IsUnvouched judge policy f ∷ []

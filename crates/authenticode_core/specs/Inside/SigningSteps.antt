@@ -1,4 +1,4 @@
--- What the steps of the signing rules answer, each by itself.
+-- The results of the steps of the signing rules, each on its own.
 use Rattle.std.specs.Prelude.{◌≡◌, ◌≢◌, ◌↔◌, ℕ, List, [], ◌∷◌, IsTrue}
 use Rattle.asn1_types.specs.Elements.{object_identifier_of}
 use Rattle.asn1_types.specs.Values.{integer_contents}
@@ -25,22 +25,23 @@ use Rattle.authenticode_core.specs.declared.error.AuthenticodeError.{Authenticod
 use Rattle.authenticode_core.specs.declared.error.AuthenticodeError.TheVariants as errors
 use Rattle.authenticode_core.specs.declared.signer.naming.Named.{Named}
 
--- the certificate of the first signer stands at this place of the bag
+-- the certificate of the first signer is at this index of the bag
 abbrev pub HasSigner : SignedDataElements → ℕ → CertificateElements → Type 0
 HasSigner f place c =
     (bag : List CertificateElements) × IsBagOf f bag × IsSignerCertificate f bag place c
 
--- the certificate of the first signer stands at this place
+-- the certificate of the first signer is at this index
 abbrev pub HasSignerAt : SignedDataElements → ℕ → Type 0
 HasSignerAt f place = (c : CertificateElements) × HasSigner f place c
 
--- The certificate of the first signer stands there, and what its issuer walk asks for is known.
+-- The certificate of the first signer is at this index, and it is known whether its issuer walk has
+-- an extended key usage.
 pub record NamesSigner (f : SignedDataElements) (named : Named) : Type 0 where
   pub has : HasSigner f named.certificate.place (view_elements named.certificate.certificate)
   pub asks : IsTrue named.asks_for_purposes
       ↔ AsksForPurposes has.0 (view_elements named.certificate.certificate)
 
--- The error tells of these octets of an issuer and these contents octets of a serial number.
+-- The error reports this issuer, given as octets, and this serial number, given as contents octets.
 pub record TellsName (issuer serial_number : List ℕ) (e : AuthenticodeError) : Type 0 where
   pub made : DirectoryName
   pub number : IntegerAsn1
@@ -48,20 +49,20 @@ pub record TellsName (issuer serial_number : List ℕ) (e : AuthenticodeError) :
   pub number_is : integer_contents number ≡ serial_number
   pub told : e ≡ errors.NoCertificatesAssociatedWithIssuerAndSerialNumber made number
 
--- an AlgorithmIdentifier has an identifier of these contents octets
+-- the OID of an AlgorithmIdentifier has these contents octets
 abbrev pub IsOfIdentifier : DerElement → List ℕ → Type 0
 IsOfIdentifier element oid =
     (parameters : List DerElement) × (element ≡ sequence (object_identifier_of oid ∷ parameters))
 
--- the attributes hold the digest of the indirect data, by an algorithm that isn't SHA-224
+-- the attributes have the digest of the indirect data, by an algorithm that isn't SHA-224
 abbrev pub IsBoundBy : IndirectData → SignerElements → HashAlgorithm → Type 0
 IsBoundBy d g hash = (hash ≢ SHA2_224) × HasMessageDigest g (digest_of hash (digested_octets d))
 
--- the rules of the message digest, in their order
+-- the rules of the message digest, in order
 abbrev pub digest_rules : IndirectData → SignerElements → List (Rule AuthenticodeError)
 digest_rules d g = HasNoMessageDigest g ∷ IsUnsupportedDigest g ∷ DigestDiffers d g ∷ []
 
--- the certificate may not sign code, which the error tells
+-- the certificate may not sign code, which the error reports
 abbrev pub MayNotSignCode : List CertificateElements → CertificateElements → Rule AuthenticodeError
 MayNotSignCode bag c e =
     AsksForPurposes bag c × (NamesPurpose c KP_CODE_SIGNING.now → ⊥) × (e ≡ errors.NoEKUCodeSigning)

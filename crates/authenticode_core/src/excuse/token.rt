@@ -1,5 +1,5 @@
-//! The time-stamp token beside a signature, where its octets lie (Windows Authenticode Portable
-//! Executable Signature Format).
+//! The time-stamp token of a signature, borrowed (Windows Authenticode Portable Executable
+//! Signature Format).
 
 ghost use Rattle.std.specs.Prelude.{◌≡◌, [], ◌∷◌, List, MatchOption};
 ghost use Rattle.cms_types.specs.SignedDataElements.{SignedDataElements};
@@ -17,8 +17,8 @@ use asn1_types::oids::RFC3161_COUNTER_SIGN;
 use cms_types::{SignedView, SignerView};
 use der_core::Elem;
 
-/// The first of the time-stamp tokens in the first unsigned attribute of the first signer, where
-/// this attribute holds such. It takes no memory.
+/// The first time-stamp token in the first unsigned attribute of the first signer, if that
+/// attribute holds tokens. It doesn't allocate.
 pub(crate) fn token_of<'a>(signed_data: &SignedView<'a>) -> Option<SignedView<'a>>
     ensures { MatchOption result
         ((t : SignedDataElements) → HasToken (data_elements signed_data.now) t → ⊥)
@@ -31,7 +31,7 @@ pub(crate) fn token_of<'a>(signed_data: &SignedView<'a>) -> Option<SignedView<'a
     SignedView::read(first)
 }
 
-/// The first of the signers.
+/// The first signer.
 pub(crate) fn first_signer_of<'a>(signed_data: &SignedView<'a>) -> Option<SignerView<'a>>
     ensures { MatchOption result
         ((g : SignerElements) → IsFirstSigner (data_elements signed_data.now) g → ⊥)
@@ -41,7 +41,7 @@ pub(crate) fn first_signer_of<'a>(signed_data: &SignedView<'a>) -> Option<Signer
     SignerView::read(first)
 }
 
-/// The first of the unsigned attributes of a signer.
+/// The first unsigned attribute of a signer.
 fn first_unsigned_of<'a>(signer: &SignerView<'a>) -> Option<Elem<'a>>
     ensures { MatchOption result (members_of (signer_elements_at signer.now).unsigned_attrs ≡ [])
         (λ first. (others : List DerElement)

@@ -1,4 +1,4 @@
-//! The walk from the certificate of a signer to those of its issuers, where their octets lie.
+//! The walk from the signer's certificate to those of its issuers, borrowed.
 
 ghost use Rattle.std.specs.Prelude.{◌≡◌, ℕ, suc, ◌<◌, List, [], length, None, IfSome, MatchOption};
 ghost use Rattle.der_core.specs.DerElement.{DerElement};
@@ -17,9 +17,8 @@ use crate::signer::wanted::Wanted;
 use der_core::is_same;
 use x509_types::CertView;
 
-/// The first certificate whose subject is that of the signer's, then each next later one whose
-/// subject is the issuer of the one before (RFC 5280 6.1). The bag is read once, and no memory is
-/// taken.
+/// The first certificate with the signer's subject, then each next later one whose subject is the
+/// issuer of the one before (RFC 5280 6.1). The bag is read once, without allocating.
 #[derive(Clone, Copy)]
 pub struct IssuerWalk<'a> {
     bag: Bag<'a>,
@@ -27,7 +26,7 @@ pub struct IssuerWalk<'a> {
 }
 
 impl<'a> IssuerWalk<'a> {
-    /// The walk of the certificate over what is left of the bag.
+    /// The walk of the certificate over the rest of the bag.
     pub fn new(bag: Bag<'a>, signer: &CertView<'a>) -> IssuerWalk<'a>
         ensures looks { (certificates : List CertificateElements) → StandsIn bag.entry certificates
             → LooksFrom result certificates bag.entry.place (view_elements signer.now).tbs.subject }
@@ -39,7 +38,7 @@ impl<'a> IssuerWalk<'a> {
         }
     }
 
-    /// The next certificate of the bag, with its place in it, and whether it is the next of the
+    /// The next certificate of the bag, with its index in it, and whether it is the next of the
     /// walk.
     pub(crate) fn step(&mut self) -> Option<(BagCertificate<'a>, bool)>
         ensures begins { MatchOption result (IsBag (left_members self.old.bag.members) [])
@@ -58,11 +57,11 @@ impl<'a> IssuerWalk<'a> {
         Some((next, false))
     }
 
-    /// The next certificate of the walk, with its place in the bag.
+    /// The next certificate of the walk, with its index in the bag.
     pub fn next(&mut self) -> Option<BagCertificate<'a>>
         ensures fewer { IfSome result (λ _. length (left_members self.new.bag.members)
             < length (left_members self.old.bag.members)) }
-        // After None nothing has changed.
+        // If no certificate is returned, nothing changes.
         ensures ended { result ≡ None → self.new ≡ self.old }
         ensures next { (bag : List CertificateElements) (from : ℕ) (subject : DerElement)
             → LooksFrom self.old bag from subject

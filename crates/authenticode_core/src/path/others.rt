@@ -1,4 +1,4 @@
-//! The certificates of an issuer walk, or of a bag, without those of one subject.
+//! The certificates of an issuer walk, or of a bag, without those with a given subject.
 
 ghost use Rattle.std.specs.Prelude.{◌≡◌, ◌<◌, ℕ, List, [], length, IfSome, MatchOption};
 ghost use Rattle.x509_types.specs.CertificateElements.{CertificateElements};
@@ -13,15 +13,15 @@ use crate::signer::bag::{Bag, BagCertificate};
 use der_core::is_same;
 use x509_types::CertView;
 
-/// Where certificates come from, in their order.
+/// Where certificates come from, in order.
 #[derive(Clone, Copy)]
 pub(crate) enum Source<'a> {
     Walk(IssuerWalk<'a>),
     Bag(Bag<'a>),
 }
 
-/// Certificates, but for those with one subject, by its octets. They are read once, and no memory
-/// is taken.
+/// Certificates without those with a given subject, given as octets. They are read once, without
+/// allocating.
 #[derive(Clone, Copy)]
 pub(crate) struct Others<'a> {
     source: Source<'a>,
@@ -29,7 +29,7 @@ pub(crate) struct Others<'a> {
 }
 
 impl<'a> Source<'a> {
-    /// The next certificate, with its place in the bag.
+    /// The next certificate, with its index in the bag.
     fn next(&mut self) -> Option<BagCertificate<'a>>
         ensures fewer { IfSome result
             (λ _. length (unread_members self.new) < length (unread_members self.old)) }
@@ -47,7 +47,7 @@ impl<'a> Source<'a> {
 }
 
 impl<'a> Others<'a> {
-    /// The certificates of the issuer path of a certificate, over a bag before its first.
+    /// The certificates of the issuer path of a certificate, from a bag at its beginning.
     pub(crate) fn on_path(bag: Bag<'a>, signer: &CertView<'a>) -> Others<'a>
         ensures { (certificates : List CertificateElements) → StandsIn bag.entry certificates
             → bag.entry.place ≡ 0
@@ -60,7 +60,7 @@ impl<'a> Others<'a> {
         }
     }
 
-    /// The certificates of a bag, before its first, whose subject isn't that of this one.
+    /// The certificates of a bag at its beginning, without those with the subject of this one.
     pub(crate) fn in_bag(bag: Bag<'a>, first: &CertView<'a>) -> Others<'a>
         ensures { (certificates : List CertificateElements) → StandsIn bag.entry certificates
             → bag.entry.place ≡ 0
@@ -73,7 +73,7 @@ impl<'a> Others<'a> {
         }
     }
 
-    /// The next certificate with another subject, with its place in the bag.
+    /// The next certificate with another subject, with its index in the bag.
     pub(crate) fn next(&mut self) -> Option<BagCertificate<'a>>
         ensures fewer { IfSome result (λ _. length (unread_members self.new.source)
             < length (unread_members self.old.source)) }

@@ -1,4 +1,4 @@
-//! The signed attributes of a signer, where their octets lie.
+//! The signed attributes of a signer, borrowed.
 
 ghost use Rattle.std.specs.Prelude.{◌≡◌, [], List, ℕ, IfOk, MatchOption};
 ghost use Rattle.der_core.specs.DerElement.{DerElement, tag_of};
@@ -14,8 +14,8 @@ use der_core::tag::{OBJECT_IDENTIFIER, OCTET_STRING, SEQUENCE, SET};
 use der_core::{Elem, Kids, expect_leaf, leaf_at, two_kids};
 use std::alloc::{AllocError, Global};
 
-/// The octets that a signer signs: its attributes with the tag of a SET, an empty one where they
-/// are left out (RFC 2315 9.3). No other octet of them is changed.
+/// The octets that a signer signs: its attributes with the tag of a SET, an empty one if they are
+/// absent (RFC 2315 9.3). Their other octets aren't changed.
 pub(crate) fn signed_message_of(
     alloc: Global,
     signer: &SignerView<'_>,
@@ -29,7 +29,7 @@ pub(crate) fn signed_message_of(
     }
 }
 
-/// The octets of the elements in a constructed element as those of a SET.
+/// The octets of a constructed element with the tag of a SET.
 fn as_set(alloc: Global, attributes: Elem<'_>) -> Result<Vec<u8>, AllocError>
     requires { form_bit (tag_of attributes.is.0) ≡ 1 }
     ensures { IfOk result
@@ -40,7 +40,7 @@ fn as_set(alloc: Global, attributes: Elem<'_>) -> Result<Vec<u8>, AllocError>
     Ok(octets)
 }
 
-/// The first value of the first message digest among the signed attributes (RFC 2985 5.3.2).
+/// The first value of the first message digest in the signed attributes (RFC 2985 5.3.2).
 pub(crate) fn message_digest_of<'a>(signer: &SignerView<'a>) -> Option<&'a [u8]>
     ensures { MatchOption result
         ((digest : List ℕ) → HasMessageDigest (signer_elements_at signer.now) digest → ⊥)
@@ -52,7 +52,7 @@ pub(crate) fn message_digest_of<'a>(signer: &SignerView<'a>) -> Option<&'a [u8]>
     leaf_at(first, OCTET_STRING)
 }
 
-/// The signed attributes, where they aren't left out.
+/// The signed attributes, if they aren't absent.
 fn attributes_of<'a>(signer: &SignerView<'a>) -> Option<Kids<'a>>
     ensures { MatchOption result
         (signed_attributes_of (signer_elements_at signer.now) ≡ [])
@@ -62,7 +62,7 @@ fn attributes_of<'a>(signer: &SignerView<'a>) -> Option<Kids<'a>>
     Kids::within(attributes)
 }
 
-/// The values of the first attribute of this identifier, by its contents octets.
+/// The values of the first attribute with this OID, given as contents octets.
 fn first_values<'a>(mut attributes: Kids<'a>, oid: &[u8]) -> Option<Kids<'a>>
     ensures { MatchOption result
         ((values : List DerElement) → IsFirstAttribute oid.now attributes.entry.are.0 values → ⊥)
@@ -76,7 +76,7 @@ fn first_values<'a>(mut attributes: Kids<'a>, oid: &[u8]) -> Option<Kids<'a>>
     None
 }
 
-/// The values in an attribute of this identifier, by its contents octets (RFC 5652 5.3).
+/// The values of an attribute with this OID, given as contents octets (RFC 5652 5.3).
 pub(crate) fn values_of<'a>(attribute: Elem<'a>, oid: &[u8]) -> Option<Kids<'a>>
     ensures { MatchOption result
         ((values : List DerElement) → IsAttributeOf oid.now attribute.entry.is.0 values → ⊥)

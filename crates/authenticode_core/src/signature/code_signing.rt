@@ -10,8 +10,8 @@ use crate::error::AuthenticodeError;
 use crate::signer::naming::Named;
 use asn1_types::oids::KP_CODE_SIGNING;
 
-/// The certificate of a signer names code signing, where one of its issuer walk has an extended key
-/// usage.
+/// Checks that the signer's certificate has the extended key usage code signing, if a certificate
+/// of its issuer walk has an extended key usage.
 pub(crate) fn expect_code_signing(named: &Named<'_>) -> Result<(), AuthenticodeError>
     ensures { (bag : List CertificateElements)
         → IsTrue named.now.asks_for_purposes

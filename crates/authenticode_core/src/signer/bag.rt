@@ -1,4 +1,4 @@
-//! The certificates that signed data carries, where their octets lie.
+//! The certificates that signed data contains, borrowed.
 
 ghost use Rattle.std.specs.Prelude.{◌≡◌, ℕ, suc, ◌+◌, ◌<◌, ◌^◌, List, [], length, None, MatchOption, IfSome};
 ghost use Rattle.std.specs.Coded.{Coded-set};
@@ -16,7 +16,7 @@ use crate::signer::wanted::Wanted;
 use der_core::{Elem, Kids};
 use x509_types::CertView;
 
-/// A certificate of a bag: its place, 0 that of the first, its element, and what lies in this.
+/// A certificate of a bag: its index, from 0, its element, and the view of it.
 #[derive(Clone, Copy)]
 pub struct BagCertificate<'a> {
     pub place: usize,
@@ -25,8 +25,8 @@ pub struct BagCertificate<'a> {
     pub ghost is: { elem.is.0 ≡ certificate_of (view_elements certificate) } by { Coded-set coded_element elem.is.0 (certificate_of (view_elements certificate)) },
 }
 
-/// The certificates among the members of a field, one after another where their octets lie (RFC
-/// 5652 5.1, 10.2.3). Members that aren't certificates are passed over. It takes no memory.
+/// The certificates among the members of a field, read one by one and borrowed (RFC 5652 5.1,
+/// 10.2.3). Members that aren't certificates are skipped. It doesn't allocate.
 #[derive(Clone, Copy)]
 pub struct Bag<'a> {
     members: Option<Kids<'a>>,
@@ -37,7 +37,7 @@ pub struct Bag<'a> {
 impl<'a> Bag<'a> {
     ghost use Rattle.authenticode_core.specs.BagCursor.{StandsIn};
 
-    /// The bag of a field of certificates, which may be left out, before its first certificate.
+    /// The bag of an optional field of certificates, at its beginning.
     pub fn of(certificates: Option<Elem<'a>>) -> Bag<'a>
         ensures members { left_members result.members ≡ members_of (at_option certificates.entry) }
         ensures place { result.place ≡ 0 }
@@ -49,13 +49,13 @@ impl<'a> Bag<'a> {
         Bag { members, place: 0 }
     }
 
-    /// The next certificate, with its place in the bag.
+    /// The next certificate, with its index in the bag.
     pub fn next(&mut self) -> Option<BagCertificate<'a>>
         ensures fewer { IfSome result
             (λ _. length (left_members self.new.members) < length (left_members self.old.members)) }
         ensures place { IfSome result
             (λ next. (next.place ≡ self.old.place) × (self.new.place ≡ suc next.place)) }
-        // After None nothing has changed.
+        // If no certificate is returned, nothing changes.
         ensures ended { result ≡ None → self.new ≡ self.old }
         ensures begins { MatchOption result (IsBag (left_members self.old.members) [])
             (λ next. BeginsBag (left_members self.old.members) (view_elements next.certificate)
@@ -80,7 +80,7 @@ impl<'a> Bag<'a> {
         })
     }
 
-    /// The next certificate that is wanted, with its place in the bag.
+    /// The next wanted certificate, with its index in the bag.
     pub(crate) fn next_wanted(&mut self, wanted: Wanted<'_>) -> Option<BagCertificate<'a>>
         ensures fewer { IfSome result
             (λ _. length (left_members self.new.members) < length (left_members self.old.members)) }
@@ -100,7 +100,7 @@ impl<'a> Bag<'a> {
         None
     }
 
-    /// How many certificates are left.
+    /// The number of certificates left.
     pub fn count(self) -> usize
         ensures { (bag : List CertificateElements) × IsBag (left_members self.entry.members) bag
             × (result ≡ length bag) }
@@ -116,7 +116,7 @@ impl<'a> Bag<'a> {
     }
 }
 
-/// The next of the members that is a certificate.
+/// The next member that is a certificate.
 fn next_certificate<'a>(members: &mut Kids<'a>) -> Option<(Elem<'a>, CertView<'a>)>
     ensures { MatchOption result (IsBag members.old.are.0 []) (λ next. IsCertView next.0.is.0 next.1
         × BeginsBag members.old.are.0 (view_elements next.1) members.new.are.0) }

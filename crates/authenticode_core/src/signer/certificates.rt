@@ -1,4 +1,4 @@
-//! The certificates of signed data, and the issuer walk of one of them, where they lie.
+//! The certificates of signed data, and the issuer walk of one of them, borrowed.
 
 ghost use Rattle.std.specs.Prelude.{◌≡◌, List};
 ghost use Rattle.der_core.specs.Optional.{members_of};
@@ -15,7 +15,7 @@ use crate::signer::bag::Bag;
 use cms_types::SignedView;
 use x509_types::CertView;
 
-/// The certificates that signed data carries, before the first of them. It takes no memory.
+/// The certificates that signed data contains, from the first on. It doesn't allocate.
 pub fn certificate_bag<'a>(signed_data: &SignedView<'a>) -> Bag<'a>
     ensures members { left_members result.members
         ≡ members_of (data_elements signed_data.now).certificates }
@@ -27,7 +27,7 @@ pub fn certificate_bag<'a>(signed_data: &SignedView<'a>) -> Bag<'a>
     Bag::of(signed_data.certificates())
 }
 
-/// The issuer walk of a certificate over the bag of signed data. It takes no memory.
+/// The issuer walk of a certificate over the bag of signed data. It doesn't allocate.
 pub fn issuer_walk_of<'a>(signed_data: &SignedView<'a>, signer: &CertView<'a>) -> IssuerWalk<'a>
     ensures looks { (bag : List CertificateElements)
         → IsBag (members_of (data_elements signed_data.now).certificates) bag

@@ -1,5 +1,5 @@
-//! The certificate of a signer, by its issuer and its serial number, and what its issuer walk asks
-//! for.
+//! The signer's certificate, by its issuer and serial number, and whether its issuer walk has an
+//! extended key usage.
 
 ghost use Rattle.std.specs.Prelude.{◌≡◌, ◌↔◌, List, IsTrue, IfSome, MatchOption};
 ghost use Rattle.cms_types.specs.SignedView.{data_elements};
@@ -26,20 +26,21 @@ use der_core::tag::{INTEGER, SEQUENCE};
 use der_core::{Elem, Kids, is_same, leaf_at};
 use x509_types::CertView;
 
-/// The tag around the version of a certificate.
+/// The explicit tag of the version of a certificate.
 const VERSION: u8 = 0xA0;
 
-/// The certificate of a signer, and whether one of its issuer walk has an extended key usage.
+/// The signer's certificate, and whether a certificate of its issuer walk has an extended key
+/// usage.
 #[derive(Clone, Copy)]
 pub(crate) struct Named<'a> {
     pub(crate) certificate: BagCertificate<'a>,
     pub(crate) asks_for_purposes: bool,
 }
 
-/// The first certificate of signed data with this issuer, by its octets, and this serial number, by
-/// its contents octets. Up to that one the two fields are compared before any other is looked at.
-/// Then the bag is read once to its end: for the place, for the issuer walk, and so that it is
-/// known whose place is answered. It takes no memory.
+/// The first certificate of signed data with this issuer, given as octets, and this serial number,
+/// given as contents octets. Up to that one the two fields are compared before any other is read.
+/// Then the bag is read once to its end: for the index, for the issuer walk, and so that it is
+/// known whose index is returned. It doesn't allocate.
 pub(crate) fn named_certificate<'a>(
     signed_data: &SignedView<'a>,
     issuer: &[u8],
@@ -67,8 +68,8 @@ pub(crate) fn named_certificate<'a>(
     }
 }
 
-/// The first certificate of signed data that is named so, with its place, which is known. No other
-/// certificate is tested.
+/// The first certificate of signed data with this issuer and serial number, and its index, which is
+/// known. No other certificate is tested.
 pub(crate) fn named_at_place<'a>(
     signed_data: &SignedView<'a>,
     issuer: &[u8],
@@ -88,7 +89,8 @@ pub(crate) fn named_at_place<'a>(
     })
 }
 
-/// The first certificate in a field of certificates that is named so, and its element.
+/// The first certificate in a field of certificates with this issuer and serial number, and its
+/// element.
 fn first_named<'a>(
     certificates: Option<Elem<'a>>,
     issuer: &[u8],
@@ -104,7 +106,7 @@ fn first_named<'a>(
     first_among(members, issuer, serial_number)
 }
 
-/// The first certificate among the members that is named so, and its element.
+/// The first certificate among the members with this issuer and serial number, and its element.
 fn first_among<'a>(
     mut members: Kids<'a>,
     issuer: &[u8],
@@ -123,7 +125,7 @@ fn first_among<'a>(
     None
 }
 
-/// The certificate that a member is, where it is named so.
+/// The certificate that a member is, if it has this issuer and serial number.
 fn named_at<'a>(member: Elem<'a>, issuer: &[u8], serial_number: &[u8]) -> Option<CertView<'a>>
     ensures { MatchOption result
         ((c : CertificateElements) → IsMember member.entry.is.0 c
@@ -141,8 +143,8 @@ fn named_at<'a>(member: Elem<'a>, issuer: &[u8], serial_number: &[u8]) -> Option
     Some(certificate)
 }
 
-/// Whether a member could be a certificate that is named so. One whose fields aren't found is
-/// looked at again.
+/// Whether a member could be a certificate with this issuer and serial number. One whose fields
+/// aren't found is read by the caller.
 fn may_be_named(member: Elem<'_>, issuer: &[u8], serial_number: &[u8]) -> bool
     ensures { (c : CertificateElements) → member.entry.is.0 ≡ certificate_of c
         → IsNamedBy issuer.now serial_number.now c → IsTrue result }
@@ -169,8 +171,8 @@ fn issuer_and_serial_in<'a>(member: Elem<'a>) -> Option<(&'a [u8], &'a [u8])>
     Some((issuer.whole, serial_number))
 }
 
-/// The first certificate of a bag that is wanted, and whether some certificate of the issuer walk
-/// has an extended key usage. The bag is read once, to its end, and no memory is taken.
+/// The first wanted certificate of a bag, and whether some certificate of the issuer walk has an
+/// extended key usage. The bag is read once, to its end, without allocating.
 fn find_on_walk<'a>(
     mut walk: IssuerWalk<'a>,
     wanted: Wanted<'_>,
@@ -194,7 +196,7 @@ fn find_on_walk<'a>(
     (found, asks)
 }
 
-/// What was found before, or else the next certificate where it is wanted.
+/// What was found before, or else the next certificate if it is wanted.
 fn found_next<'a>(
     found: Option<BagCertificate<'a>>,
     next: BagCertificate<'a>,
@@ -211,7 +213,8 @@ fn found_next<'a>(
     None
 }
 
-/// Whether one asked before, or this one of the walk has an extended key usage.
+/// Whether an earlier certificate of the walk has an extended key usage, or this one, if it is on
+/// the walk.
 fn asks_next(asks: bool, on_walk: bool, certificate: &CertView<'_>) -> bool
     ensures { AsksNext asks on_walk (view_elements certificate.now) result }
 {

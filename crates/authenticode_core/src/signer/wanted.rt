@@ -1,4 +1,4 @@
-//! Certificates that are looked for in a bag.
+//! Certificates searched for in a bag.
 
 ghost use Rattle.std.specs.Prelude.{◌↔◌, IsTrue};
 ghost use Rattle.x509_types.specs.CertificateView.{view_elements};
@@ -7,8 +7,8 @@ ghost use Rattle.authenticode_core.specs.Inside.Wanted.{IsWanted};
 use der_core::is_same;
 use x509_types::CertView;
 
-/// A certificate by the octets of its subject, by the octets of its issuer and the contents octets
-/// of its serial number, or by a purpose that it names, by the contents octets of this.
+/// A certificate by its subject, given as octets, by its issuer and serial number, given as octets
+/// and as contents octets, or by an extended key usage, given as the contents octets of its OID.
 #[derive(Clone, Copy)]
 pub(crate) enum Wanted<'a> {
     Subject(&'a [u8]),
@@ -17,7 +17,7 @@ pub(crate) enum Wanted<'a> {
 }
 
 impl<'a> Wanted<'a> {
-    /// Whether the certificate is such a one.
+    /// Whether the certificate is wanted.
     pub(crate) fn is(&self, certificate: &CertView<'_>) -> bool
         ensures { IsTrue result ↔ IsWanted self.now (view_elements certificate.now) }
     {

@@ -2,7 +2,7 @@ use Rattle.std.proofs.Common.{◌≡◌, ◌+◌, ◌<◌, ◌^◌, Some, length
 use Rattle.authenticode_core.proofs.form.count_within.Given as goal
 use Rattle.der_core.specs.Optional.{members_of}
 
--- those that were counted and those that are left are all
+-- the counted elements and those that are left are all
 abbrev pub invariant-loop-kid : goal.invariant-loop-kid
 invariant-loop-kid l = record {
   all : l.count + length l.kids.are.0 ≡ length (members_of (Some l.elem.is.0));

@@ -4,7 +4,7 @@ use Rattle.authenticode_core.specs.Inside.OthersCursor.{AreLeft, unread_members}
 use Rattle.authenticode_core.proofs.LinkedPlaces.{Linked}
 use Rattle.authenticode_core.proofs.path.linked_places.Given as goal
 
--- the certificates at the places so far are linked, and those of the others are left
+-- the certificates at the indices so far are linked, and the others are left
 abbrev pub invariant-loop-next : goal.invariant-loop-next
 invariant-loop-next g l = (bag : List CertificateElements) (all : List ℕ) → AreLeft l.initial.parents bag all → Linked (g.S.Scheme.judge l.scheme) l.window bag l.checked all l.parents l.linking
 

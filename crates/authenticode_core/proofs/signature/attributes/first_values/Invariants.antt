@@ -3,7 +3,7 @@ use Rattle.der_core.specs.DerElement.{DerElement}
 use Rattle.authenticode_core.specs.SignedFields.{IsFirstAttribute}
 use Rattle.authenticode_core.proofs.signature.attributes.first_values.Given as goal
 
--- the first of all is the first of those that are left
+-- the first of all is the first of the rest
 abbrev pub invariant-loop-attribute : goal.invariant-loop-attribute
 invariant-loop-attribute l = record {
   enough : (values : List DerElement) → IsFirstAttribute l.oid l.attributes.are.0 values → IsFirstAttribute l.oid l.initial.attributes.are.0 values;

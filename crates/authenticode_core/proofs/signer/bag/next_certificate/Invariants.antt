@@ -3,7 +3,7 @@ use Rattle.x509_types.specs.CertificateElements.{CertificateElements}
 use Rattle.authenticode_core.specs.CertificateBag.{IsBag}
 use Rattle.authenticode_core.proofs.signer.bag.next_certificate.Given as goal
 
--- the bag of all is the bag of those that are left
+-- the bag of all is the bag of the rest
 abbrev pub invariant-loop-elem : goal.invariant-loop-elem
 invariant-loop-elem l = record {
   enough : (bag : List CertificateElements) → IsBag l.members.are.0 bag → IsBag l.initial.members.are.0 bag;

@@ -7,7 +7,7 @@ use Rattle.authenticode_core.specs.WalkCursor.{LooksFrom}
 use Rattle.authenticode_core.proofs.PassedPlaces.{Passed}
 use Rattle.authenticode_core.proofs.signer.naming.find_on_walk.Given as goal
 
--- a bag of the members that are left is the end of one of all, and what was passed is known
+-- a bag of the rest is the end of one of all, and what was passed is known
 abbrev pub invariant-loop-next : goal.invariant-loop-next
 invariant-loop-next l = record {
   begun : (others : List CertificateElements) → IsBag (left_members l.walk.bag.members) others → (bag : List CertificateElements) × IsBag (left_members l.initial.walk.bag.members) bag;

@@ -5,7 +5,7 @@ use Rattle.authenticode_core.specs.Inside.Wanted.{IsNamedBy}
 use Rattle.authenticode_core.proofs.NamedMembers.{Unnamed}
 use Rattle.authenticode_core.proofs.signer.naming.first_among.Given as goal
 
--- none of the members that were passed is named so
+-- none of the passed members has this issuer and serial number
 abbrev pub invariant-loop-member : goal.invariant-loop-member
 invariant-loop-member l = (bag : List CertificateElements) → IsBag l.initial.members.are.0 bag → Unnamed l.members.are.0 bag (IsNamedBy l.issuer l.serial_number)
 

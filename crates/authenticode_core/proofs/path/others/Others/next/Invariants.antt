@@ -3,7 +3,7 @@ use Rattle.x509_types.specs.CertificateElements.{CertificateElements}
 use Rattle.authenticode_core.specs.Inside.OthersCursor.{AreLeft, unread_members}
 use Rattle.authenticode_core.proofs.path.others.Others.next.Given as goal
 
--- those that were passed over had the subject, so the same places are left
+-- the skipped certificates had the subject, so the same indices are left
 abbrev pub invariant-loop-next : goal.invariant-loop-next
 invariant-loop-next l = record {
   left : (bag : List CertificateElements) (places : List ℕ) → AreLeft l.initial.self bag places → AreLeft l.self bag places;

@@ -4,7 +4,7 @@ use Rattle.authenticode_core.specs.CertificateBag.{IsBag}
 use Rattle.authenticode_core.specs.LeftMembers.{left_members}
 use Rattle.authenticode_core.proofs.signer.bag.Bag.count.Given as goal
 
--- the bag of those that are left, with as many certificates before it as were counted, is the bag of all
+-- the bag of the rest, with as many certificates before it as were counted, is the bag of all
 abbrev pub invariant-loop-next : goal.invariant-loop-next
 invariant-loop-next l = record {
   all : (others : List CertificateElements) → IsBag l.members.are.0 others → (bag : List CertificateElements) × IsBag (left_members l.self.members) bag × (l.count + length others ≡ length bag);

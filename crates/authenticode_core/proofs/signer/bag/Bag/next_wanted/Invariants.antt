@@ -6,7 +6,7 @@ use Rattle.authenticode_core.specs.LeftMembers.{left_members}
 use Rattle.authenticode_core.specs.Places.{HoldsOfNone}
 use Rattle.authenticode_core.proofs.signer.bag.Bag.next_wanted.Given as goal
 
--- the cursor stands in the same bag, and no certificate that it passed is wanted
+-- the cursor is in the same bag, and no certificate that it passed is wanted
 abbrev pub invariant-loop-next : goal.invariant-loop-next
 invariant-loop-next l = record {
   stands : (bag : List CertificateElements) → StandsIn l.initial.self bag → StandsIn l.self bag;
