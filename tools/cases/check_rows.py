@@ -707,7 +707,7 @@ TOKENS = [
 # The issuer path of an excused signer: each rule of each parent, a certificate for time stamping and a token.
 
 OTHER_SIGNER = s(by=K_X, authority=None)
-PATHS = [
+EXCUSED_PATHS = [
     ("all is well", (S, I, R), accepted(0, "1,2")),
     ("no parent", (S,), accepted()),
     ("signed by another key", (OTHER_SIGNER, I, R), bad_signature("S")),
@@ -733,7 +733,7 @@ def excused(said, excuse):
 
 def excused_paths():
     """Each path under both excuses, with the chain and without it."""
-    for why, bag, said in PATHS:
+    for why, bag, said in EXCUSED_PATHS:
         yield Row(f"bag, its path: {why}", file(*bag, T), OVER, excused(said, "bag"))
         yield Row(f"bag, its path: {why}, no chain", file(*bag, T), at(LATER, **NO_CHAIN), accepted(excuse="bag"))
         yield Row(f"token, its path: {why}", file(*bag, tokens=(TOKEN,)), OVER, excused(said, "token"))
