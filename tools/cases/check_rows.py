@@ -1,180 +1,35 @@
-"""Signature files under policies, for `golden_check`: the worked rows, and a row for each refusal and each excuse of steps 14 and 15.
+"""Signature files under policies, for `golden_check`: the worked rows, and a row for each refusal of steps 14 and 15.
 
 What is answered stands in each row, found by hand from the steps that `check_judge`
 lists.  Rows with two faults are answered by the first.  Those of the steps before
-are in `basic_steps`.
+are in `basic_steps`, those of excuses in `excuse_rows`.
 """
 
 from dataclasses import replace
 from itertools import combinations
-from typing import NamedTuple
 
-from cases.basic_making import CODE_SIGNING, TIME_STAMPING, Signed, extension, named, usage
+from cases import excuse_rows
+from cases.basic_making import Signed, extension, named
 from cases.basic_steps import BY_KEY, DATA_CONTENT, OTHER_HASH, RIGHT, WITHOUT_NULL, WRONG
 from cases.check_making import (
-    AGREEMENT, EDWARDS, EDWARDS_448, LATTICE, OTHER_CURVE, P256, P384, SHORT_EDWARDS, SIGNATURES,
-    DATA_ALONE, File, Made, Other, constraints, counter_signature, countersigned, file, rsa, token, wide_rsa,
+    AGREEMENT, DATA_ALONE, EDWARDS, EDWARDS_448, LATTICE, OTHER_CURVE, P256, P384, SHORT_EDWARDS, SIGNATURES, Made, constraints, file, token,
+    wide_rsa,
 )
-from cases.first_path import (
-    CONTENT_TYPE, FILE_HASH, INDIRECT_DATA, MESSAGE_DIGEST, attribute, context, element, identifier, octet_string, sequence, utc_time,
+from cases.check_parts import (
+    ALIKE, ALL, ALONE, ATTRIBUTES, BARE, BASIC, CODE, DAY, EARLY, FIRST, IN, K_I, K_R, K_S, K_T, K_X, LAST, LATE, LATER, LIFETIME, NAMED_BY_KEY,
+    NOTHING, NO_AFTER, NO_BEFORE, NO_CHAIN, NO_DATE, NO_DATES, NO_SIGNED_DATA, NO_SIGNER, OTHER_ID, OVER, PAST, SIGNING, STAMP, UNREAD, I, R, Row, S,
+    T, accepted, at, bad_signature, expired, i, no_authority, no_certificate, no_key_id, not_yet, other_issuer, other_key_id, r, refused, s, too_deep,
+    unknown_algorithm, without,
 )
-from judges.check_judge import LIFETIME_SIGNING, Policy
-
-
-class Row(NamedTuple):
-    """Why a row is there, the file, what is asked, and the line that is answered."""
-
-    why: str
-    file: File
-    policy: Policy
-    said: str
-
-
-# What is asked.
-
-def digits(date):
-    """A date, or a moment, in fourteen digits."""
-    return "".join(filter(str.isdigit, date)).ljust(14, "0")
-
-
-ALL = Policy(True, True, True, True, True, FILE_HASH)
-SIGNING = ALL._replace(basic=False, file_hash=None)
-NOTHING = Policy()
-BASIC = Policy(basic=True, file_hash=FILE_HASH)
-
-
-def at(date, until=None, policy=ALL, **flags):
-    """`check` at a date, or from one to another."""
-    return policy._replace(lower=digits(date), upper=digits(until) if until else None, **flags)
-
-
-DAY, LATER = "2025-01-01", "2031-01-01"
-IN, OVER = at(DAY), at(LATER)
-NO_BEFORE, NO_AFTER, NO_CHAIN = {"not_before": False}, {"not_after": False}, {"chain": False}
-NO_DATES = NO_BEFORE | NO_AFTER
-
-
-# What is answered.
-
-def accepted(signer=0, path="", excuse="none"):
-    return f"accepted signer={signer} path={path} excuse={excuse}"
-
-
-def refused(name, text):
-    return f"refused {name} {text}"
-
-
-def shown(date):
-    """A date or a moment as it is printed."""
-    return date.replace("T", " ") if "T" in date else f"{date} 00:00:00"
-
-
-def not_yet(name, begins, now):
-    return refused("InvalidCertificate:CertificateNotYetValid",
-                   f"invalid certificate 'CN={name}': certificate is not yet valid (not before: {shown(begins)}, now: {shown(now)})")
-
-
-def expired(name="S", ends="2030-01-01", now=LATER):
-    return refused("InvalidCertificate:CertificateExpired",
-                   f"invalid certificate 'CN={name}': certificate expired (not after: {shown(ends)}, now: {shown(now)})")
-
-
-def no_authority(name):
-    return refused("InvalidChain:IssuerIsNotCA", f"CA chain error: issuer certificate 'CN={name}' is not a CA")
-
-
-def too_deep(name, length):
-    return refused("InvalidChain:TooDeep", "CA chain error: chain depth doesn't satisfy basic constraints extension: "
-                   f"certificate 'CN={name}' has pathlen of {length}")
-
-
-def no_key_id(name):
-    return refused("InvalidCertificate:ExtensionNotFound", f"invalid certificate 'CN={name}': extension not found: subject key identifier")
-
-
-def other_key_id(name, expected, actual):
-    return refused("InvalidCertificate:InvalidChain:AuthorityKeyIdMismatch",
-                   f"invalid certificate 'CN={name}': CA chain error: authority key id doesn't match (expected: {expected}, got: {actual})")
-
-
-def other_issuer(name, expected, actual):
-    return refused("InvalidCertificate:InvalidChain:IssuerNameMismatch",
-                   f"invalid certificate 'CN={name}': CA chain error: issuer name doesn't match (expected: CN={expected}, got: CN={actual})")
-
-
-def unknown_algorithm(dotted):
-    return refused("Signature", f"signature error: unsupported algorithm: {dotted}")
-
-
-def bad_signature(name, cause="invalid signature"):
-    return refused("InvalidCertificate:Signature", f"invalid certificate 'CN={name}': signature error: {cause}")
-
-
-def bad_stamp(answer):
-    """The refusal of a token by that of its chain."""
-    return refused("InvalidTimestampCert", f"certificate of the time stamp: {answer.split(' ', 2)[2]}")
-
-
-NO_DATE = refused("MissingBuilderArgument", "missing required builder argument `now`")
-NO_SIGNER = refused("MultipleSignerInfo", "the signed data has 0 signers, and not one")
-NAMED_BY_KEY = refused("IncorrectSignerIdentifier", "the signer is named by the identifier of a key, and not by issuer and serial number")
-NO_SIGNED_DATA = refused("Asn1Deserialization",
-                         "(ASN1) couldn't deserialize pkcs7 certificate: the element has another structure than the one that is read")
-
-
-def no_certificate(serial, issuer):
-    return refused("NoCertificatesAssociatedWithIssuerAndSerialNumber",
-                   f"the signed data has no certificate of the issuer 'CN={issuer}' with the serial number {serial}")
-
-
-# Certificates: a signer, its issuer, the root above that, and others.
-
-CODE, STAMP, LIFETIME, BOTH = usage(CODE_SIGNING), usage(TIME_STAMPING), usage(CODE_SIGNING, LIFETIME_SIGNING), usage(CODE_SIGNING, TIME_STAMPING)
-K_S, K_I, K_R, K_T, K_X = (rsa(number) for number in (0x11, 0x12, 0x13, 0x14, 0x15))
-
-
-def s(**parts):
-    """The signer, whom I issued."""
-    return Made(**({"subject": b"S", "issuer": b"I", "key": K_S, "by": K_I} | parts))
-
-
-def i(**parts):
-    """The authority I, whom R issued, valid longer than the signer."""
-    return Made(**({"subject": b"I", "issuer": b"R", "key": K_I, "by": K_R, "ca": True, "ends": "20400101000000"} | parts))
-
-
-def r(**parts):
-    """The root R."""
-    return Made(**({"subject": b"R", "key": K_R, "ca": True, "ends": "20500101000000"} | parts))
-
-
-def alone(**parts):
-    """A signer that issued itself."""
-    return Made(**parts)
-
-
-def t(**parts):
-    """A certificate outside of all of this, which stamps."""
-    return Made(**({"subject": b"T", "key": K_T, "extensions": (STAMP,)} | parts))
-
-
-S, I, R, T, ALONE = s(), i(), r(), t(), alone()
-
-def without(made, place):
-    """A file whose table lacks a row."""
-    lines = made.table.splitlines(keepends=True)
-    return made._replace(table="".join(lines[:place] + lines[place + 1:]))
-
-
-BARE = {"key_id": None, "authority": None}
-UNREAD = Other(sequence())
-ATTRIBUTES = Other(context(1, sequence()))
+from cases.first_path import CONTENT_TYPE, FILE_HASH, INDIRECT_DATA, MESSAGE_DIGEST, attribute, element, identifier, octet_string, sequence, utc_time
 
 # Worked rows.
 
 C0 = Made(subject=b"Signer", key=K_S)
 STAMPED = Made(subject=b"Stamp", key=K_T, extensions=(STAMP,))
 SIGNER = s(extensions=(CODE,))
+# An expired signer that names its parent's key, signed by another key and by that one; and a member for time stamping.
+BY_ANOTHER_KEY, BY_ITS_PARENT = file(s(by=K_X, authority=K_I.identifier()), I, T), file(S, I, T)
 
 
 def twelve_kilobytes():
@@ -204,6 +59,9 @@ WORKED = [
     Row("signer, then parent", file(S, I), IN, accepted(0, "1")),
     Row("an expired signer, and a later member of another subject for time stamping", file(C0, STAMPED), OVER, accepted(excuse="bag")),
     Row("an expired signer for lifetime signing, and that member", file(replace(C0, extensions=(LIFETIME,)), STAMPED), OVER, expired("Signer")),
+    Row("an expired signer by another key than its parent's, and a member for time stamping", BY_ANOTHER_KEY, OVER, bad_signature("S")),
+    Row("by its parent's key", BY_ITS_PARENT, OVER, accepted(0, "1", "bag")),
+    Row("by another key, no chain", BY_ANOTHER_KEY, at(LATER, **NO_CHAIN), accepted(excuse="bag")),
     Row("twelve kilobytes", LARGE, IN, accepted(0, "1")),
     Row("twelve kilobytes, expired", LARGE, OVER, accepted(0, "1", "token")),
     Row("every flag and no date", file(SIGNER, I), ALL, NO_DATE),
@@ -310,8 +168,6 @@ def steps_before():
 
 # The window of the signer.
 
-FIRST, LAST = "2020-01-01", "2030-01-01"
-PAST, EARLY, LATE = "2019-01-01", "2019-12-31T23:59:59", "2030-01-01T00:00:01"
 TURNED = file(s(begins="20260101000000", ends="20240101000000"), I)
 TURNED_STAMPED = file(s(begins="20260101000000", ends="20240101000000"), I, T)
 SHORT = file(S, I)
@@ -375,7 +231,6 @@ INTERVALS = [
 
 SELF = i(issuer=b"I", by=K_I)
 CROSSED = i(serial=b"\x02", key=K_X)
-ALIKE = s(serial=b"\x02", issuer=b"R", by=K_R)
 
 PATHS = [
     Row("a chain of three", CHAIN, IN, accepted(0, "1,2")),
@@ -413,8 +268,6 @@ PATHS = [
 ]
 
 # Each parent.
-
-OTHER_ID = b"\xAA\xBB"
 
 LINKS = [
     Row("no authority", file(S, i(ca=False)), IN, no_authority("I")),
@@ -542,223 +395,6 @@ def all_from(place):
     return Row(f"{named_parts(FAULTS[place])} before all behind", faulty(*found), IN, FAULTS[place][1])
 
 
-# Excuses.
-
-BAGS = [
-    Row("a member for time stamping behind", file(S, I, T), OVER, accepted(0, "1", "bag")),
-    Row("in front", file(T, S, I, signer=S), OVER, accepted(1, "2", "bag")),
-    Row("the signer itself, for both", file(s(extensions=(BOTH,)), I), OVER, accepted(0, "1", "bag")),
-    Row("the signer itself, a usage for each", file(s(extensions=(CODE, STAMP)), I), OVER, accepted(0, "1", "bag")),
-    Row("the issuer", file(s(extensions=(CODE,)), i(extensions=(STAMP,))), OVER, accepted(0, "1", "bag")),
-    Row("the second usage of a member", file(S, I, t(extensions=(CODE, STAMP))), OVER, accepted(0, "1", "bag")),
-    Row("one purpose among others", file(S, I, t(extensions=(usage("1.2.3", TIME_STAMPING, CODE_SIGNING),))), OVER, accepted(0, "1", "bag")),
-    Row("a critical usage", file(S, I, t(extensions=(usage(TIME_STAMPING, critical=True),))), OVER, accepted(0, "1", "bag")),
-    Row("the last of many", file(S, I, R, ALONE, ALONE, ALONE, T), OVER, accepted(0, "1,2", "bag")),
-    Row("a member expired as well", file(S, I, t(ends="20210101000000")), OVER, accepted(0, "1", "bag")),
-    Row("a member that isn't valid yet", file(S, I, t(begins="20400101000000", ends="20500101000000")), OVER, accepted(0, "1", "bag")),
-    Row("a member that nobody signed", file(S, I, t(by=K_X)), OVER, accepted(0, "1", "bag")),
-    Row("the path is asked", file(S, i(ca=False, ends="20210101000000", key_id=None), T), OVER, no_authority("I")),
-    Row("a signature of the path that isn't accepted", file(s(by=K_X, authority=None), I, T), OVER, bad_signature("S")),
-    Row("no chain asked", file(S, I, T), at(LATER, **NO_CHAIN), accepted(excuse="bag")),
-    Row("no chain, no usage", file(S, I), at(LATER, **NO_CHAIN), expired()),
-    Row("the last end left out: no excuse is asked", file(S, I, T), at(LATER, **NO_AFTER), accepted(0, "1")),
-    Row("within: no excuse is asked", file(S, I, T), IN, accepted(0, "1")),
-    Row("not yet valid: none is looked for", file(S, I, T), at(EARLY), not_yet("S", FIRST, EARLY)),
-    Row("basic left out", file(S, I, T), at(LATER, policy=SIGNING), accepted(0, "1", "bag")),
-    Row("a bad signature is told first", without(file(S, I, T), 0), OVER, refused("SignatureError", "signature error: invalid signature")),
-    Row("no member for time stamping", file(S, I, R), OVER, expired()),
-    Row("a member for any purpose", file(S, I, t(extensions=(usage("2.5.29.37.0"),))), OVER, expired()),
-    Row("a member of no purpose", file(S, I, t(extensions=(usage(),))), OVER, expired()),
-    Row("a purpose that begins likewise", file(S, I, t(extensions=(usage("1.3.6.1.5.5.7.3.8.1"),))), OVER, expired()),
-    Row("a purpose a level up", file(S, I, t(extensions=(usage("1.3.6.1.5.5.7.3"),))), OVER, expired()),
-    Row("the purpose in another extension", file(S, I, t(extensions=(extension("1.2.3", sequence(identifier(TIME_STAMPING))),))), OVER, expired()),
-    Row("a member that isn't read", file(S, I, Other(T.octets()[:-1][:1] + b"\x03\x02\x01\x00")), OVER, expired()),
-    # lifetime signing
-    Row("lifetime signing", file(s(extensions=(LIFETIME,)), I, T), OVER, expired()),
-    Row("lifetime signing in a second usage", file(s(extensions=(CODE, usage(LIFETIME_SIGNING))), I, T), OVER, expired()),
-    Row("lifetime signing and time stamping of the signer", file(s(extensions=(usage(CODE_SIGNING, TIME_STAMPING, LIFETIME_SIGNING),)), I), OVER, expired()),
-    Row("lifetime signing of another member", file(s(extensions=(CODE,)), i(extensions=(usage(LIFETIME_SIGNING),)), T), OVER, accepted(0, "1", "bag")),
-    Row("lifetime signing within", file(s(extensions=(LIFETIME,)), I, T), IN, accepted(0, "1")),
-    Row("lifetime signing, the last end left out", file(s(extensions=(LIFETIME,)), I, T), at(LATER, **NO_AFTER), accepted(0, "1")),
-    Row("lifetime signing and a token", file(s(extensions=(LIFETIME,)), I, tokens=(token(T),)), OVER, expired()),
-    Row("lifetime signing of the second of the signer's subject", file(S, s(serial=b"\x02", extensions=(LIFETIME,)), I, T), at(LATER, policy=SIGNING), accepted(0, "2", "bag")),
-]
-
-# Tokens: a stamp F, its issuer G, and the root above that.
-
-K_F, K_G, K_H = (rsa(number) for number in (0x21, 0x22, 0x23))
-
-
-def f(**parts):
-    return Made(**({"subject": b"F", "issuer": b"G", "key": K_F, "by": K_G, "extensions": (STAMP,)} | parts))
-
-
-def g(**parts):
-    return Made(**({"subject": b"G", "issuer": b"H", "key": K_G, "by": K_H, "ca": True} | parts))
-
-
-def h(**parts):
-    return Made(**({"subject": b"H", "key": K_H, "ca": True} | parts))
-
-
-F, G, H = f(), g(), h()
-
-
-def stamped(*members, policy=OVER, said=accepted(0, "1", "token"), why, **parts):
-    """A row with a token of these certificates."""
-    return Row(f"token: {why}", file(S, I, tokens=(token(*members),), **parts), policy, said)
-
-
-def with_unsigned(why, *unsigned, tokens=(), said=expired()):
-    """A row with these unsigned attributes."""
-    return Row(f"unsigned attributes: {why}", file(S, I, tokens=tokens, unsigned=unsigned), OVER, said)
-
-
-TOKEN, PLAIN_TOKEN = token(F, G, H), token(ALONE)
-OLD_STAMPS = (f(ends="20210101000000"), g(ends="20210101000000"), h(ends="20210101000000"))
-COMING_STAMPS = (f(begins="20400101000000", ends="20500101000000"), g(begins="20400101000000", ends="20500101000000"), H)
-
-TOKENS = [
-    stamped(F, G, H, why="a chain of three"),
-    stamped(F, G, why="a chain of two"),
-    stamped(F, why="one whose issuer isn't there"),
-    stamped(T, why="one that issued itself"),
-    stamped(T, H, policy=IN, said=accepted(0, "1"), why="within nobody asks"),
-    stamped(F, H, policy=at(LATER, **NO_AFTER), said=accepted(0, "1"), why="with the last end left out nobody asks"),
-    stamped(F, H, policy=at(EARLY), said=not_yet("S", FIRST, EARLY), why="not yet valid: none is looked for"),
-    stamped(F, G, H, policy=at(LATER, policy=SIGNING), why="basic left out"),
-    stamped(F, G, H, policy=at(LATER, **NO_CHAIN), said=accepted(excuse="token"), why="no chain asked"),
-    stamped(F, G, H, policy=at(LATER, **NO_BEFORE), why="the first end left out"),
-    stamped(F, G, H, policy=at(LATE, LATER), why="an interval"),
-    # which certificate stamps
-    stamped(said=expired(), why="no certificate"),
-    stamped(UNREAD, said=expired(), why="none that is read"),
-    stamped(f(extensions=()), g(), said=expired(), why="none for time stamping"),
-    stamped(f(extensions=(CODE,)), g(), said=expired(), why="code signing alone"),
-    stamped(f(extensions=(usage("2.5.29.37.0"),)), G, said=expired(), why="any purpose"),
-    stamped(f(extensions=()), g(ca=False), said=expired(), why="none for time stamping, and a broken chain"),
-    stamped(f(extensions=()), g(extensions=(STAMP,)), why="the issuer alone is for time stamping"),
-    stamped(f(extensions=()), G, h(extensions=(STAMP,)), why="the root alone"),
-    stamped(f(extensions=(CODE, STAMP)), G, why="a second usage"),
-    stamped(f(extensions=(usage(TIME_STAMPING, LIFETIME_SIGNING),)), G, why="lifetime signing of the stamp isn't asked"),
-    # the first one, and those of another subject in order
-    stamped(UNREAD, F, ATTRIBUTES, G, UNREAD, H, why="members that aren't certificates between"),
-    stamped(F, F, G, H, why="the first one twice"),
-    stamped(F, G, f(serial=b"\x02", key=K_X), H, why="another of the first one's subject between"),
-    stamped(F, G, f(serial=b"\x02", key=K_X), why="another of the first one's subject behind"),
-    stamped(f(authority=None), H, G, said=bad_stamp(other_issuer("F", "G", "H")), why="the root before the authority"),
-    stamped(F, H, G, said=bad_stamp(other_key_id("F", K_G.identifier().hex(), K_H.identifier().hex())), why="the same, and keys are named"),
-    stamped(G, F, H, said=bad_stamp(no_authority("F")), why="the authority before the stamp"),
-    stamped(F, G, ALONE, said=bad_stamp(no_authority("S")), why="one that has nothing to do with it behind"),
-    stamped(F, G, H, r(length=None), said=bad_stamp(other_key_id("H", K_H.identifier().hex(), K_R.identifier().hex())), why="another root behind"),
-    stamped(f(issuer=b"F", by=K_X), f(serial=b"\x02", key=K_X), why="its issuer has its own name"),
-    # each rule of its chain
-    stamped(F, g(ca=False), H, said=bad_stamp(no_authority("G")), why="no authority"),
-    stamped(F, g(ca=None), H, said=bad_stamp(no_authority("G")), why="no constraints"),
-    stamped(F, G, h(ca=False), said=bad_stamp(no_authority("H")), why="no authority above"),
-    stamped(F, g(length=0), h(length=1), why="path lengths"),
-    stamped(F, G, h(length=0), said=bad_stamp(too_deep("H", 0)), why="a path length of 0 above"),
-    stamped(F, F, G, h(length=0), said=bad_stamp(too_deep("H", 0)), why="the first one twice isn't counted"),
-    stamped(F, F, G, h(length=1), why="the first one twice isn't counted, and 1 is enough"),
-    stamped(F, g(key_id=None), said=bad_stamp(no_key_id("G")), why="no key identifier"),
-    stamped(F, g(key_id=OTHER_ID), said=bad_stamp(other_key_id("F", K_G.identifier().hex(), "aabb")), why="another key identifier"),
-    stamped(f(outer=sequence(identifier("1.2.3"))), G, said=bad_stamp(unknown_algorithm("1.2.3")), why="an algorithm of no kind"),
-    stamped(f(by=K_X, authority=None), G, said=bad_stamp(bad_signature("F")), why="signed by another key"),
-    stamped(F, g(by=K_X, authority=None), H, said=bad_stamp(bad_signature("G")), why="its issuer signed by another key"),
-    stamped(F, g(key=P256, key_id=K_G.identifier()), said=bad_stamp(bad_signature("F", "Key error: unsupported algorithm: EC")), why="a key of another kind"),
-    stamped(F, g(ca=False), policy=at(LATER, **NO_CHAIN), said=bad_stamp(no_authority("G")), why="the chain of a token is asked without the chain"),
-    stamped(F, g(ca=False), policy=at(LATER, policy=SIGNING), said=bad_stamp(no_authority("G")), why="and without basic"),
-    Row("token: a table without the row of the stamp's certificate", without(file(S, I, tokens=(TOKEN,)), 3), OVER, bad_stamp(bad_signature("F"))),
-    Row("token: a table without the row of the last one's", without(file(S, I, tokens=(TOKEN,)), 5), OVER, accepted(0, "1", "token")),
-    # dates aren't asked
-    stamped(*OLD_STAMPS, why="expired as well"),
-    stamped(*COMING_STAMPS, why="not yet valid"),
-    stamped(f(begins="20260101000000", ends="20240101000000"), G, why="never valid"),
-    # what comes first
-    Row("token: a member of the bag excuses, and the token is broken", file(S, I, T, tokens=(token(F, g(ca=False)),)), OVER, accepted(0, "1", "bag")),
-    Row("token: the path is asked", file(S, i(ca=False, ends="20210101000000"), tokens=(TOKEN,)), OVER, no_authority("I")),
-    Row("token: lifetime signing of the signer, and the token is broken", file(s(extensions=(LIFETIME,)), I, tokens=(token(F, g(ca=False)),)), OVER, expired()),
-    Row("token: a parent expired isn't excused", file(S, i(ends="20240101000000"), tokens=(TOKEN,)), IN, expired("I", "2024-01-01", DAY)),
-    Row("token: a bad signature is told first", without(file(S, I, tokens=(token(F, g(ca=False)),)), 0), OVER, refused("SignatureError", "signature error: invalid signature")),
-    Row("token: the signer behind", file(I, S, signer=S, tokens=(TOKEN,)), OVER, accepted(1, excuse="token")),
-    # unsigned attributes
-    with_unsigned("none"),
-    with_unsigned("a token", countersigned(TOKEN), tokens=(TOKEN,), said=accepted(0, "1", "token")),
-    with_unsigned("no value", countersigned()),
-    with_unsigned("no value, then a token", countersigned(), countersigned(TOKEN), tokens=(TOKEN,)),
-    with_unsigned("a counter-signature", counter_signature()),
-    with_unsigned("a counter-signature, then a token", counter_signature(), countersigned(TOKEN), tokens=(TOKEN,)),
-    with_unsigned("a token, then a counter-signature", countersigned(TOKEN), counter_signature(), tokens=(TOKEN,), said=accepted(0, "1", "token")),
-    with_unsigned("another kind", attribute("1.2.3", octet_string(b""))),
-    with_unsigned("another kind, then a token", attribute("1.2.3", octet_string(b"")), countersigned(TOKEN), tokens=(TOKEN,)),
-    with_unsigned("a token of another kind of attribute", attribute("1.2.3", TOKEN.octets()), tokens=(TOKEN,)),
-    with_unsigned("two values, the first stamps", countersigned(TOKEN, PLAIN_TOKEN), tokens=(TOKEN,), said=accepted(0, "1", "token")),
-    with_unsigned("two values, the second stamps", countersigned(PLAIN_TOKEN, TOKEN), tokens=(TOKEN,)),
-    with_unsigned("two values, the second's chain is broken", countersigned(TOKEN, token(F, g(ca=False))), tokens=(TOKEN,), said=accepted(0, "1", "token")),
-    with_unsigned("two values, the first's chain is broken", countersigned(token(F, g(ca=False)), TOKEN), tokens=(TOKEN,), said=bad_stamp(no_authority("G"))),
-    with_unsigned("two tokens, the first doesn't stamp", countersigned(PLAIN_TOKEN), countersigned(TOKEN), tokens=(TOKEN,)),
-    with_unsigned("a token that is no signed data", attribute("1.3.6.1.4.1.311.3.3.1", sequence()), said=NO_SIGNED_DATA),
-    Row("unsigned attributes: those of the second signer", file(S, I, tokens=(TOKEN,), signers=(TWO_SIGNERS[0], Signed(named=S.named(), unsigned=(countersigned(TOKEN),)).signer())),
-        at(LATER, policy=SIGNING), expired()),
-    Row("unsigned attributes: those of the first of two signers", file(S, I, tokens=(TOKEN,), signers=(Signed(named=S.named(), unsigned=(countersigned(TOKEN),)).signer(), TWO_SIGNERS[0])),
-        at(LATER, policy=SIGNING), accepted(0, "1", "token")),
-]
-
-# The issuer path of an excused signer: each rule of each parent, a certificate for time stamping and a token.
-
-OTHER_SIGNER = s(by=K_X, authority=None)
-EXCUSED_PATHS = [
-    ("all is well", (S, I, R), accepted(0, "1,2")),
-    ("no parent", (S,), accepted()),
-    ("signed by another key", (OTHER_SIGNER, I, R), bad_signature("S")),
-    ("no authority", (S, i(ca=False), R), no_authority("I")),
-    ("no constraints", (S, i(ca=None), R), no_authority("I")),
-    ("an expired parent", (S, i(ends="20210101000000"), R), expired("I", "2021-01-01")),
-    ("a parent that isn't valid yet", (S, i(begins="20350101000000"), R), not_yet("I", "2035-01-01", LATER)),
-    ("a parent that has no key identifier", (S, i(key_id=None), R), no_key_id("I")),
-    ("a parent of another key identifier", (S, i(key_id=OTHER_ID), R), other_key_id("S", K_I.identifier().hex(), "aabb")),
-    ("the parent signed by another key", (S, i(by=K_X, authority=None), R), bad_signature("I")),
-    ("no authority above", (S, I, r(ca=False)), no_authority("R")),
-    ("an expired root", (S, I, r(ends="20210101000000")), expired("R", "2021-01-01")),
-    ("a path length of 0 above", (S, I, r(length=0)), too_deep("R", 0)),
-    ("a path length of 1 above", (S, I, r(length=1)), accepted(0, "1,2")),
-    ("two parents that have expired", (S, i(ends="20210101000000"), r(ends="20220101000000")), expired("I", "2021-01-01")),
-]
-
-
-def excused(said, excuse):
-    """An answer with the excuse."""
-    return said.replace("excuse=none", f"excuse={excuse}")
-
-
-def excused_paths():
-    """Each path under both excuses, with the chain and without it."""
-    for why, bag, said in EXCUSED_PATHS:
-        yield Row(f"bag, its path: {why}", file(*bag, T), OVER, excused(said, "bag"))
-        yield Row(f"bag, its path: {why}, no chain", file(*bag, T), at(LATER, **NO_CHAIN), accepted(excuse="bag"))
-        yield Row(f"token, its path: {why}", file(*bag, tokens=(TOKEN,)), OVER, excused(said, "token"))
-        yield Row(f"token, its path: {why}, no chain", file(*bag, tokens=(TOKEN,)), at(LATER, **NO_CHAIN), accepted(excuse="token"))
-
-
-EXCUSED = [
-    *excused_paths(),
-    # one parent, and the chain left out
-    Row("an expired signer by another key than its parent's, and a member for time stamping", file(OTHER_SIGNER, I, T), OVER, bad_signature("S")),
-    Row("by its parent's key", file(S, I, T), OVER, accepted(0, "1", "bag")),
-    Row("by another key, no chain", file(OTHER_SIGNER, I, T), at(LATER, **NO_CHAIN), accepted(excuse="bag")),
-    # what comes first
-    Row("lifetime signing, and a broken path", file(s(extensions=(LIFETIME,)), i(ca=False), T), OVER, expired()),
-    Row("no excuse, and a broken path", file(S, i(ca=False)), OVER, expired()),
-    Row("a token that isn't linked, and a broken path", file(S, i(ca=False), tokens=(token(F, g(ca=False)),)), OVER, bad_stamp(no_authority("G"))),
-    Row("a member for time stamping, a token that isn't linked, and a broken path", file(S, i(ca=False), T, tokens=(token(F, g(ca=False)),)), OVER, no_authority("I")),
-    # the other window
-    Row("excused over an interval, a parent that ends before it", file(S, i(ends="20300601000000"), T), at("2030-07-01", LATER), expired("I", "2030-06-01", "2030-07-01")),
-    Row("excused over an interval, a parent that begins in it", file(S, i(begins="20300901000000"), T), at("2030-07-01", LATER), accepted(0, "1", "bag")),
-    Row("excused over an interval, a parent that begins behind it", file(S, i(begins="20310601000000"), T), at("2030-07-01", LATER), not_yet("I", "2031-06-01", LATER)),
-    Row("excused, the first end left out, a parent that isn't valid yet", file(S, i(begins="20350101000000"), T), at(LATER, **NO_BEFORE), accepted(0, "1", "bag")),
-]
-
-
 def rows():
     """Every row."""
     yield from WORKED
@@ -771,6 +407,4 @@ def rows():
     yield from LINKS
     yield from pairs()
     yield from map(all_from, range(len(FAULTS) - 1))
-    yield from BAGS
-    yield from TOKENS
-    yield from EXCUSED
+    yield from excuse_rows.rows()

@@ -38,7 +38,7 @@ from pathlib import Path
 
 sys.path.insert(0, str(Path(__file__).resolve().parents[1]))
 
-from cases import basic_steps, basic_world, check_rows
+from cases import basic_steps, basic_world, check_parts, check_rows
 from cases import issuing_chains as issued
 from cases.first_path import FILE_HASH, signature_file, verdict_line
 from common import command
@@ -391,7 +391,7 @@ CHAIN_ROWS = [
 CHECKED = check_rows.CHAIN
 CHECK = ("check", "s", "t", HASH)
 BEGINS, ENDS, BEFORE, AFTER = "2020-01-01", "2030-01-01", "2019-01-01", "2031-01-01"
-WITH_PATH, WITHOUT_PATH = (f"{check_rows.accepted(0, path)}\n" for path in ("1,2", ""))
+WITH_PATH, WITHOUT_PATH = (f"{check_parts.accepted(0, path)}\n" for path in ("1,2", ""))
 LATE, EARLY = refused("InvalidCertificate:CertificateExpired"), refused("InvalidCertificate:CertificateNotYetValid")
 UNTIL = ("--until", "2026-01-01")
 OPTIONS = (*UNTIL, "--no-before", "--no-after", "--no-chain")
@@ -445,7 +445,7 @@ def of_program(label, date, *options, in_order=True):
     file = (made.in_order() if in_order else made).file()
     words = (date, *options)
     flags = {name: f"--no-{name.removeprefix('not_')}" not in options for name in ("not_before", "not_after", "chain")}
-    moment = check_rows.digits(date)
+    moment = check_parts.digits(date)
     policy = check_judge.Policy(True, True, file_hash=file.file_hash, lower=moment, **flags)
     line = line_of(check_judge.answer(file.octets, policy, file.table))
     files = {"s": file.octets, "t": file.table.encode("ascii")}
