@@ -518,6 +518,9 @@ CHECK_ROWS = [
     Row("check: a signature from a pipe", ("check", PIPE, "t", HASH, DAY), 0, WITH_PATH, {"t": CHECKED.table.encode("ascii")}, given=CHECKED.octets),
     Row("check: a table from a pipe", ("check", "s", PIPE, HASH, DAY), 0, WITH_PATH, {"s": CHECKED.octets}, given=CHECKED.table.encode("ascii")),
     # answers
+    of_check("an expired signer by another key than its parent's", (AFTER,), 1, refused("InvalidCertificate:Signature"), check_rows.BY_ANOTHER_KEY),
+    of_check("an expired signer by its parent's key", (AFTER,), 0, f"{check_parts.accepted(0, '1', 'bag')}\n", check_rows.BY_ITS_PARENT),
+    of_check("an expired signer by another key, no chain", (AFTER, "--no-chain"), 0, f"{check_parts.accepted(excuse='bag')}\n", check_rows.BY_ANOTHER_KEY),
     *of_each_answer(),
     *(of_program(label, date) for label in ("three", "stamped, three", "stamped by openssl", "lifetime, stamped", "alone", "server", "by other")
       for date in ("2021-06-01", "2023-06-01", "2036-06-01")),
