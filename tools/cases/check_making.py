@@ -1,4 +1,4 @@
-"""Signature files with chains of certificates, tokens and excuses, for `check_rows`.
+"""Signature files with chains of certificates, tokens and excuses, for `check_rows` and `excuse_rows`.
 
 Everything is signed under the demonstration scheme (docs/FORMATS.md), and the
 table of a file has a row for each of these signatures.

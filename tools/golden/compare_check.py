@@ -5,10 +5,11 @@ Usage:
 
     python3 tools/golden/compare_check.py [--seed N] [--count N] PROGRAM
 
-PROGRAM is the executable of the crate `golden_check`.  The files are those of
-`golden_check.py`, changed as `compare_basic.py` changes them, under policies drawn
-at random.  The table accepts most of the signatures that a check may ask for, so
-that the steps behind them are reached.  Exit status 1 says that an answer differs.
+PROGRAM is the executable of the crate `golden_check`.  Half of the files are those
+of `golden_check.py`, changed as `compare_basic.py` changes them, under policies drawn
+at random, the others are drawn whole (`drawn_excuses.py`).  The table accepts most of
+the signatures that a check may ask for, so that the steps behind them are reached.
+Exit status 1 says that an answer differs.
 """
 
 import sys
@@ -17,7 +18,7 @@ from pathlib import Path
 sys.path.insert(0, str(Path(__file__).resolve().parents[1]))
 
 import verdict_table
-from cases import check_rows, real_policies
+from cases import check_rows, drawn_excuses, real_policies
 from cases.basic_world import HEADER
 from common import command
 from golden import golden_check
@@ -80,6 +81,11 @@ def case(chance, element):
     return None if file is None else (file, policy_for(chance, file), accepting_table(chance, file))
 
 
+def either(chance, element):
+    """A case of the element, changed, or one that is drawn whole."""
+    return drawn_excuses.case(chance) if chance.random() < 0.5 else case(chance, element)
+
+
 def kind(said):
     """The name of a refusal, or how a file is accepted."""
     words = said.split()
@@ -88,7 +94,7 @@ def kind(said):
 
 def main(arguments):
     words = options(arguments, "A check under a policy beside a judge in Python.", 4000, "golden_check")
-    made = cases(words.seed, words.count, bases(), case)
+    made = cases(words.seed, words.count, bases(), either)
     rows = [(word(octets), golden_check.table_word(table), golden_check.asked_word(policy)) for octets, policy, table in made]
     return compare(words.program, rows, [answer(*one) for one in made], kind)
 
