@@ -1,0 +1,4 @@
+pub mod First
+pub mod FileTime
+pub mod Attributes
+pub mod Listing
