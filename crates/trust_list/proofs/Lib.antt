@@ -1,0 +1,3 @@
+pub mod FirstMembers
+pub mod OneListing
+pub mod ListingSteps

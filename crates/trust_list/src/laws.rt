@@ -1,0 +1,17 @@
+//! Laws of the listing of a name.
+
+ghost use Rattle.std.specs.Prelude.{◌≡◌, ℕ, ℤ, List};
+ghost use Rattle.cms_content.specs.declared.ctl_entry.CTLEntry.{CTLEntry};
+ghost use Rattle.der_core.specs.Rules.{IsFirstBroken};
+ghost use Rattle.trust_list.specs.Listing.{IsListed, listing_rules};
+ghost use Rattle.trust_list.specs.declared.error.ListingError.{ListingError};
+
+/// A name that is listed breaks no rule, and of one that isn't the first broken rule is told once.
+/// So `expect_listed` has one answer.
+pub fn listing_has_one_answer()
+    ensures unbroken { (entries : List CTLEntry) (name : List ℕ) (now : ℤ) (e : ListingError)
+        → IsListed entries name now → IsFirstBroken (listing_rules entries name now) e → ⊥ }
+    ensures once { (entries : List CTLEntry) (name : List ℕ) (now : ℤ) (a b : ListingError)
+        → IsFirstBroken (listing_rules entries name now) a
+        → IsFirstBroken (listing_rules entries name now) b → a ≡ b }
+{}

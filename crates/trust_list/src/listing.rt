@@ -1,0 +1,82 @@
+//! Whether the name of a CA is listed, step by step.
+
+ghost use Rattle.std.specs.Prelude.{◌↔◌, IsTrue, MatchResult};
+ghost use Rattle.der_core.specs.Rules.{IsFirstBroken};
+ghost use Rattle.trust_list.specs.Listing.{BeginsWell, EndsWell, IsListed, IsSaidOfOthers, beginning_rules, end_rules, listing_rules};
+
+use crate::attributes::{begins_of, ends_of, is_for_code_signing, usages_of};
+use crate::entries::entry_of;
+use crate::error::ListingError;
+use crate::file_time::seconds_of;
+use cms_content::CTLEntry;
+use md5::{Digest as _, Md5};
+
+/// The name of a CA, by its octets, is listed in the entries of a trust list at a time, in whole
+/// seconds since 1601-01-01, UTC. The first of these is answered that doesn't hold: an entry has
+/// the MD5 of the name; the first such one hasn't ended; it has begun, or its beginning isn't said
+/// of code signing.
+pub fn expect_listed(entries: &[CTLEntry], name: &[u8], now: i64) -> Result<(), ListingError>
+    ensures { MatchResult result (λ _. IsListed entries.now name.now now)
+        (IsFirstBroken (listing_rules entries.now name.now now)) }
+{
+    let digest = Md5::digest(name);
+    let Some(entry) = entry_of(entries, &digest) else {
+        return Err(ListingError::NotListed);
+    };
+    expect_lasting(entry, now)?;
+    expect_begun(entry, now)
+}
+
+/// The time of the end, where the entry has one, is at least now.
+fn expect_lasting(entry: &CTLEntry, now: i64) -> Result<(), ListingError>
+    ensures { MatchResult result (λ _. EndsWell entry.now now)
+        (IsFirstBroken (end_rules entry.now now)) }
+{
+    let Some(times) = ends_of(entry) else {
+        return Ok(());
+    };
+    let Some(first) = times.first() else {
+        return Err(ListingError::MalformedEntry);
+    };
+    let Some(not_after) = seconds_of(first.as_slice()) else {
+        return Err(ListingError::Revoked);
+    };
+    if not_after < now {
+        return Err(ListingError::Expired { not_after, now });
+    }
+    Ok(())
+}
+
+/// The time of the beginning, where the entry has one, is at most now, or it isn't said of code
+/// signing.
+fn expect_begun(entry: &CTLEntry, now: i64) -> Result<(), ListingError>
+    ensures { MatchResult result (λ _. BeginsWell entry.now now)
+        (IsFirstBroken (beginning_rules entry.now now)) }
+{
+    let Some(times) = begins_of(entry) else {
+        return Ok(());
+    };
+    let Some(first) = times.first() else {
+        return Err(ListingError::MalformedEntry);
+    };
+    let Some(not_before) = seconds_of(first.as_slice()) else {
+        return Err(ListingError::MalformedEntry);
+    };
+    if not_before > now && !is_said_of_others(entry) {
+        return Err(ListingError::NotYetValid { not_before, now });
+    }
+    Ok(())
+}
+
+/// Whether the time of the beginning is said of purposes among which isn't code signing.
+fn is_said_of_others(entry: &CTLEntry) -> bool
+    ensures { IsTrue result ↔ IsSaidOfOthers entry.now }
+{
+    let Some(usages) = usages_of(entry) else {
+        return false;
+    };
+    match usages.first() {
+        Some(first) => !is_for_code_signing(first.purposes()),
+        None => false,
+    }
+}
