@@ -26,6 +26,7 @@ sys.path.insert(0, str(Path(__file__).resolve().parents[1]))
 
 from cases import cms_rows, kept_certificates, kept_private_keys, signature_rows, whole_certificates
 from cases import hostile_certificates as hostile
+from cases import listing_rows as listings
 from cases import structure_rows as structures
 from cases import value_rows as values
 from common import command, folders
@@ -36,6 +37,7 @@ from interop.oid_table import BAD_CONTENTS, BAD_TEXTS, KNOWN, READ, contents
 from judges import cms_reader
 from judges.cms_reader import cms_line
 from judges.der_reader import Constructed, Malformed, Primitive, read_exact, read_first, write
+from judges.listing_judge import listing_line
 from judges.value_reader import ATTRIBUTE_VALUES, FAULTS, KINDS, Shape, bits, general_name, ia5, integer, name, shown_fault, structure_line, unread, valued_attribute, view_line, word
 
 
@@ -601,6 +603,14 @@ def signed_content_rows():
         yield f"make sha {name}", word(write(made_algorithm(text, Primitive(5, b""))))
 
 
+def listing_rows():
+    """Names on trust lists."""
+    for octets, name, now, why in listings.ROWS:
+        line = listing_line(bytes.fromhex(octets), bytes.fromhex(name), now)
+        assert line == listings.BY_HAND.get(why, line), (why, line)
+        yield f"listed name {octets} {word(bytes.fromhex(name))} {now}", line
+
+
 def value_rows():
     """The rows of `golden_value`."""
     yield from identifier_rows()
@@ -781,7 +791,7 @@ def stored_files():
         *stored_run("golden_structure", filterfalse(is_extension, structure_rows())),
         *stored_run("golden_extension", filter(is_extension, structure_rows())),
         *stored_run("golden_certificate", chain(whole_certificate_rows(), world_rows())),
-        *stored_run("golden_cms", chain(signed_content_rows(), world_signature_rows())),
+        *stored_run("golden_cms", chain(signed_content_rows(), world_signature_rows(), listing_rows())),
     ])
 
 

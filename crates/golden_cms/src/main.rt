@@ -7,9 +7,10 @@
 //! ```
 //!
 //! A vector is a call and its arguments, separated by spaces: `structure KIND OCTETS`,
-//! `both pkcs7 OCTETS`, `unlike KIND OCTETS OCTETS`, `members KIND OCTETS`, `make string TEXT` or
-//! `make sha NAME`. Octets and texts are in hexadecimal, `-` for none. A line is printed for each
-//! vector. `tools/golden/golden_value.py` makes vectors and golden output.
+//! `both pkcs7 OCTETS`, `unlike KIND OCTETS OCTETS`, `members KIND OCTETS`, `make string TEXT`,
+//! `make sha NAME` or `listed name LIST OCTETS SECONDS`. Octets and texts are in hexadecimal, `-`
+//! for none. A line is printed for each vector. `tools/golden/golden_value.py` makes vectors and
+//! golden output.
 //!
 //! With TIMES the file is signed data, which is read this often, for
 //! `bench/signed_data/signed_data.py`.
@@ -17,6 +18,7 @@
 
 mod both;
 mod details;
+mod listing;
 mod making;
 mod measure;
 mod members;

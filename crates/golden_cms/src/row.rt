@@ -1,6 +1,6 @@
 //! Dispatching test vectors.
 
-use crate::{both, making, members, structures};
+use crate::{both, listing, making, members, structures};
 use golden::{Args, Line};
 use std::alloc::Global;
 
@@ -30,6 +30,9 @@ fn print_call(alloc: Global, (call, kind): (&str, &str), args: Args<'_>, line: &
         ),
         ("both", [Some(octets)]) => both::print(alloc, kind, octets, line),
         ("members", [Some(octets)]) => members::print(alloc, kind, octets, line),
+        ("listed", [Some(list), Some(name), _]) => {
+            listing::print(alloc, kind, (list, name), args.words, line)
+        }
         ("make", _) => making::print(alloc, kind, args, line),
         _ => line.no_call(),
     }

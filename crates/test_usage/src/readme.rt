@@ -16,6 +16,7 @@ mod of_picky_check;
 mod of_private_key_types;
 mod of_request_types;
 mod of_sig_core;
+mod of_trust_list;
 mod of_wincert_core;
 mod of_x509_core;
 mod of_x509_issuing;

@@ -1,5 +1,5 @@
--- The steps of a listing: what each answers.
-use Rattle.std.proofs.Common.{◌≡◌, ◌↔◌, ◌⊎◌, ℕ, ℤ, ◌<◌, ◌≤◌, ◌<ℤ◌, ◌≤ℤ◌, List, [], ◌∷◌, length, Bool, true, false, not, IsTrue, Some, None, Result, Ok, Err, MatchResult, refl, sym, ap, subst, ◌∙◌, inl, inr, arith}
+-- The steps of a listing: the result of each.
+use Rattle.std.proofs.Common.{◌≡◌, ◌↔◌, ◌⊎◌, ℕ, ℤ, ◌<◌, ◌≤◌, ◌<ℤ◌, ◌≤ℤ◌, List, [], ◌∷◌, length, Bool, true, false, not, IsTrue, Some, None, Result, Ok, Err, MatchResult, refl, sym, ap, subst, inl, inr, arith}
 use Rattle.std.specs.Prelude.{slice_get}
 use Rattle.std.proofs.lemmas.Bool.{false≢true}
 use Rattle.cms_content.specs.declared.ctl_entry.CTLEntry.{CTLEntry}
@@ -10,7 +10,7 @@ use Rattle.md5.specs.Md5.{md5}
 use Rattle.trust_list.specs.Attributes.{HasBegins, HasDigest, HasEnds, HasUsages}
 use Rattle.trust_list.specs.FileTime.{seconds_of}
 use Rattle.trust_list.specs.First.{HoldsOfNone, HoldsOfSome}
-use Rattle.trust_list.specs.Listing.{BeginsWell, EndsWell, HasNoBeginning, HasNoEnd, HasNoEntry, IsCodeSigning, IsEntryOf, IsListed, IsRevoked, IsSaidOfOthers, LacksTime, beginning_rules, end_rules, listing_rules}
+use Rattle.trust_list.specs.Listing.{BeginsWell, EndsWell, HasNoBeginning, HasNoEnd, HasNoEntry, IsCodeSigning, IsEntryOf, IsListed, IsRevoked, IsForOthers, LacksTime, beginning_rules, end_rules, listing_rules}
 use Rattle.trust_list.specs.declared.error.ListingError.{ListingError}
 use Rattle.trust_list.specs.declared.error.ListingError.TheVariants as errors
 use Rattle.trust_list.proofs.FirstMembers.{first_or_none}
@@ -98,7 +98,7 @@ module _ (entry : CTLEntry) (now : ℤ) where
     pub short_beginning : length value < 8 → IsFirstBroken (beginning_rules entry now) errors.MalformedEntry
     short_beginning short = inl (value ∷ begins_with.0, begins_with.1, short, refl)
 
-    pub too_early : (seconds : ℤ) → 8 ≤ length value → seconds ≡ seconds_of value → now <ℤ seconds → (IsSaidOfOthers entry → ⊥) → IsFirstBroken (beginning_rules entry now) (errors.NotYetValid seconds now)
+    pub too_early : (seconds : ℤ) → 8 ≤ length value → seconds ≡ seconds_of value → now <ℤ seconds → (IsForOthers entry → ⊥) → IsFirstBroken (beginning_rules entry now) (errors.NotYetValid seconds now)
     too_early seconds whole is early said = inr (
       whole_beginning value begins_with.0 begins_with.1 whole,
       inl (record {
@@ -107,20 +107,21 @@ module _ (entry : CTLEntry) (now : ℤ) where
         begins = begins_with.1;
         whole = whole;
         early = subst (λ (t : ℤ). now <ℤ t) is early;
-        said = said;
+        applies = said;
         told = ap (λ (t : ℤ). errors.NotYetValid t now) is;
       }),
     )
 
-    pub begun : (seconds : ℤ) → 8 ≤ length value → seconds ≡ seconds_of value → (seconds ≤ℤ now) ⊎ IsSaidOfOthers entry → BeginsWell entry now
+    pub begun : (seconds : ℤ) → 8 ≤ length value → seconds ≡ seconds_of value → (seconds ≤ℤ now) ⊎ IsForOthers entry → BeginsWell entry now
     begun seconds whole is (inl earlier) other there =
         (value, begins_with.0, begins_once entry other (value ∷ begins_with.0) there begins_with.1, whole, inl (subst (λ (t : ℤ). t ≤ℤ now) is earlier))
     begun seconds whole is (inr said) other there =
         (value, begins_with.0, begins_once entry other (value ∷ begins_with.0) there begins_with.1, whole, inr said)
 
-  -- ---- of which purposes that is said
+-- ---- the extended key usages of the not-before time
 
-  pub said_of_none : ((usages : List HeldPurposes) → HasUsages entry usages → ⊥) → IsTrue false ↔ IsSaidOfOthers entry
+module _ (entry : CTLEntry) where
+  pub said_of_none : ((usages : List HeldPurposes) → HasUsages entry usages → ⊥) → IsTrue false ↔ IsForOthers entry
   said_of_none none = (λ on. absurd (false≢true on), λ said. absurd (none (said.0 ∷ said.1) said.2))
 
   no_usage : (a : HeldPurposes) (x : List HeldPurposes) → [] ≡ a ∷ x → ⊥
@@ -129,7 +130,7 @@ module _ (entry : CTLEntry) (now : ℤ) where
   one_head_usage : (a b : HeldPurposes) (x y : List HeldPurposes) → a ∷ x ≡ b ∷ y → a ≡ b
   one_head_usage a b x y e = cc
 
-  pub usage_missing : (usages : List HeldPurposes) → HasUsages entry usages → None ≡ slice_get usages 0 → IsTrue false ↔ IsSaidOfOthers entry
+  pub usage_missing : (usages : List HeldPurposes) → HasUsages entry usages → None ≡ slice_get usages 0 → IsTrue false ↔ IsForOthers entry
   usage_missing usages has none =
       let empty = subst (λ (us : List HeldPurposes). HasUsages entry us) (no_first usages none) has in
       (λ on. absurd (false≢true on), λ said. absurd (no_usage said.0 said.1 (usages_once entry [] (said.0 ∷ said.1) empty said.2)))
@@ -138,7 +139,7 @@ module _ (entry : CTLEntry) (now : ℤ) where
   flipped true P test = (λ on p. false≢true on, λ fails. absurd (fails (test.0 refl)))
   flipped false P test = (λ on p. false≢true (test.1 p), λ fails. refl)
 
-  pub said_of : (usages : List HeldPurposes) (usage : HeldPurposes) (b : Bool) → HasUsages entry usages → Some usage ≡ slice_get usages 0 → (IsTrue b ↔ HoldsOfSome IsCodeSigning usage.purposes) → IsTrue (not b) ↔ IsSaidOfOthers entry
+  pub said_of : (usages : List HeldPurposes) (usage : HeldPurposes) (b : Bool) → HasUsages entry usages → Some usage ≡ slice_get usages 0 → (IsTrue b ↔ HoldsOfSome IsCodeSigning usage.purposes) → IsTrue (not b) ↔ IsForOthers entry
   said_of usages usage b has first test =
       let split = some_first usages usage first in
       let there = subst (λ (us : List HeldPurposes). HasUsages entry us) split.1 has in

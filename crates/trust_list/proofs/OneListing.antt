@@ -1,5 +1,5 @@
--- A name that is listed breaks no rule, and the first broken rule is told once.
-use Rattle.std.proofs.Common.{◌≡◌, ℕ, ℤ, ◌<◌, ◌≤◌, ◌<ℤ◌, ◌≤ℤ◌, List, [], ◌∷◌, length, refl, sym, ap, subst, ◌∙◌, inl, inr, arith}
+-- A name that is listed breaks no rule, and the first broken rule is reported by one error.
+use Rattle.std.proofs.Common.{◌≡◌, ℕ, ℤ, ◌<◌, ◌≤◌, ◌≤ℤ◌, List, [], ◌∷◌, length, sym, ap, subst, ◌∙◌, inl, inr, arith}
 use Rattle.std.proofs.lemmas.Int.{ints}
 use Rattle.cms_content.specs.declared.ctl_attribute.CTLEntryAttribute.{CTLEntryAttribute}
 use Rattle.cms_content.specs.declared.ctl_entry.CTLEntry.{CTLEntry}
@@ -81,7 +81,7 @@ module _ (entry : CTLEntry) (now : ℤ) where
   too_early e broken (value, others, same, whole, inl earlier) =
       let there : seconds_of broken.value ≤ℤ now = subst (λ (v : List ℕ). seconds_of v ≤ℤ now) (one_head value broken.value others broken.others (sym same)) earlier in
       omega (arith, ints, there, broken.early)
-  too_early e broken (value, others, same, whole, inr said) = broken.said said
+  too_early e broken (value, others, same, whole, inr said) = broken.applies said
 
   begun_met : BeginsWell entry now → IsMet (HasNotBegun entry now)
   begun_met well = λ e broken. too_early e broken (well (broken.value ∷ broken.others) broken.begins)
@@ -95,7 +95,7 @@ module _ (entry : CTLEntry) (now : ℤ) where
   pub good_is_met : IsGoodEntry entry now → AreMet (entry_rules entry now)
   good_is_met good = met_together (end_rules entry now) (beginning_rules entry now) (lasting_met good.ends) (beginning_is_met good.begins)
 
-  -- ---- each is told once
+  -- ---- each is reported by one error
 
   ended_once : IsToldOnce (HasEnded entry now)
   ended_once = λ a b p q.

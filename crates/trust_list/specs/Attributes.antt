@@ -23,11 +23,12 @@ HasFirst entry vs =
 abbrev pub HasEnds : CTLEntry → List (List ℕ) → Type 0
 HasEnds entry times = HasFirst entry (values.CertDisallowedFileTimePropId times)
 
--- from when on it is: CERT_NOT_BEFORE_FILETIME, 1.3.6.1.4.1.311.10.11.126
+-- from when on it is trusted: CERT_NOT_BEFORE_FILETIME, 1.3.6.1.4.1.311.10.11.126
 abbrev pub HasBegins : CTLEntry → List (List ℕ) → Type 0
 HasBegins entry times = HasFirst entry (values.UnknownReservedPropId126 times)
 
--- of which purposes that is said: CERT_NOT_BEFORE_ENHKEY_USAGE, 1.3.6.1.4.1.311.10.11.127
+-- to which extended key usages that applies: CERT_NOT_BEFORE_ENHKEY_USAGE,
+-- 1.3.6.1.4.1.311.10.11.127
 abbrev pub HasUsages : CTLEntry → List HeldPurposes → Type 0
 HasUsages entry usages = HasFirst entry (values.UnknownReservedPropId127 usages)
 
@@ -38,6 +39,6 @@ IsDigest digest attribute =
     (others : List (List ℕ))
     × (attribute.value ≡ values.CertSubjectNameMd5HashPropId (digest ∷ others))
 
--- some attribute of the entry is this digest of a name, wherever it stands
+-- some attribute of the entry is this digest of a name
 abbrev pub HasDigest : List ℕ → CTLEntry → Type 0
 HasDigest digest entry = HoldsOfSome (IsDigest digest) entry.attributes

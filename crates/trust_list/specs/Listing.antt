@@ -22,32 +22,32 @@ EndsLater now times =
     (value : List ℕ) × (others : List (List ℕ)) × (times ≡ value ∷ others) × (8 ≤ length value)
     × (now ≤ℤ seconds_of value)
 
--- the purpose is code signing (RFC 5280 4.2.1.12)
+-- the extended key usage is code signing (RFC 5280 4.2.1.12)
 abbrev pub IsCodeSigning : ObjectIdentifier → Type 0
 IsCodeSigning purpose = identifier_contents purpose ≡ KP_CODE_SIGNING.now
 
--- one of the purposes is
+-- one of the extended key usages is code signing
 abbrev pub IsForCodeSigning : HeldPurposes → Type 0
 IsForCodeSigning usage = HoldsOfSome IsCodeSigning usage.purposes
 
--- the time of the beginning isn't said of code signing: there are purposes, and it isn't among those
--- of the first value
-abbrev pub IsSaidOfOthers : CTLEntry → Type 0
-IsSaidOfOthers entry =
+-- the not-before time doesn't apply to code signing: there are extended key usages, and it isn't
+-- among those of the first value
+abbrev pub IsForOthers : CTLEntry → Type 0
+IsForOthers entry =
     (usage : HeldPurposes) × (others : List HeldPurposes) × HasUsages entry (usage ∷ others)
     × (IsForCodeSigning usage → ⊥)
 
--- the first value is a time, and it is at most now, or not said of code signing
+-- the first value is a time, and it is at most now or doesn't apply to code signing
 abbrev pub BeginsEarlier : CTLEntry → ℤ → List (List ℕ) → Type 0
 BeginsEarlier entry now times =
     (value : List ℕ) × (others : List (List ℕ)) × (times ≡ value ∷ others) × (8 ≤ length value)
-    × ((seconds_of value ≤ℤ now) ⊎ IsSaidOfOthers entry)
+    × ((seconds_of value ≤ℤ now) ⊎ IsForOthers entry)
 
--- the entry's first time of the end, where there is one, is at least now
+-- the entry's first not-after time, if there is one, is at least now
 abbrev pub EndsWell : CTLEntry → ℤ → Type 0
 EndsWell entry now = (times : List (List ℕ)) → HasEnds entry times → EndsLater now times
 
--- the entry's first time of the beginning, where there is one, is at most now, or not said of code
+-- the entry's first not-before time, if there is one, is at most now or doesn't apply to code
 -- signing
 abbrev pub BeginsWell : CTLEntry → ℤ → Type 0
 BeginsWell entry now =
@@ -62,24 +62,24 @@ pub record IsGoodEntry (entry : CTLEntry) (now : ℤ) : Type 0 where
 abbrev pub IsEntryOf : List CTLEntry → List ℕ → CTLEntry → Type 0
 IsEntryOf entries name entry = IsFirst (HasDigest (md5 name)) entries entry
 
--- The name, by its octets, is listed in the entries: its first entry is good at the time.
+-- The name, given as its encoding, is listed in the entries: its first entry is good at the time.
 abbrev pub IsListed : List CTLEntry → List ℕ → ℤ → Type 0
 IsListed entries name now =
     (entry : CTLEntry) × IsEntryOf entries name entry × IsGoodEntry entry now
 
--- ---- rules of an entry, by what breaks them
+-- ---- rules for an entry, by what breaks them
 
--- the time of the end has no value
+-- the not-after time has no value
 abbrev pub HasNoEnd : CTLEntry → Rule ListingError
 HasNoEnd entry e = HasEnds entry [] × (e ≡ errors.MalformedEntry)
 
--- the time of the end has a first value that is none
+-- the first value of the not-after time is no time
 abbrev pub IsRevoked : CTLEntry → Rule ListingError
 IsRevoked entry e =
     (value : List ℕ) × (others : List (List ℕ)) × HasEnds entry (value ∷ others)
     × (length value < 8) × (e ≡ errors.Revoked)
 
--- The time of the end is before now.
+-- The not-after time is before now.
 pub record HasEnded (entry : CTLEntry) (now : ℤ) (e : ListingError) : Type 0 where
   pub value : List ℕ
   pub others : List (List ℕ)
@@ -93,37 +93,37 @@ abbrev pub LacksTime : List (List ℕ) → Type 0
 LacksTime [] = ⊤
 LacksTime (value ∷ others) = length value < 8
 
--- the time of the beginning has no value, or a first one that is none
+-- the not-before time has no value, or its first value is no time
 abbrev pub HasNoBeginning : CTLEntry → Rule ListingError
 HasNoBeginning entry e =
     (times : List (List ℕ)) × HasBegins entry times × LacksTime times
     × (e ≡ errors.MalformedEntry)
 
--- The time of the beginning is after now, and it is said of code signing too.
+-- The not-before time is after now, and applies to code signing too.
 pub record HasNotBegun (entry : CTLEntry) (now : ℤ) (e : ListingError) : Type 0 where
   pub value : List ℕ
   pub others : List (List ℕ)
   pub begins : HasBegins entry (value ∷ others)
   pub whole : 8 ≤ length value
   pub early : now <ℤ seconds_of value
-  pub said : IsSaidOfOthers entry → ⊥
+  pub applies : IsForOthers entry → ⊥
   pub told : e ≡ errors.NotYetValid (seconds_of value) now
 
--- the rules of the end, in their order
+-- the rules for the not-after time, in their order
 abbrev pub end_rules : CTLEntry → ℤ → List (Rule ListingError)
 end_rules entry now = HasNoEnd entry ∷ IsRevoked entry ∷ HasEnded entry now ∷ []
 
--- the rules of the beginning, in their order
+-- the rules for the not-before time, in their order
 abbrev pub beginning_rules : CTLEntry → ℤ → List (Rule ListingError)
 beginning_rules entry now = HasNoBeginning entry ∷ HasNotBegun entry now ∷ []
 
--- the rules of an entry, in their order
+-- the rules for an entry, in their order
 abbrev pub entry_rules : CTLEntry → ℤ → List (Rule ListingError)
 entry_rules entry now =
     HasNoEnd entry ∷ IsRevoked entry ∷ HasEnded entry now ∷ HasNoBeginning entry ∷
     HasNotBegun entry now ∷ []
 
--- ---- rules of a name
+-- ---- rules for a name
 
 -- no entry has the MD5 of the name
 abbrev pub HasNoEntry : List CTLEntry → List ℕ → Rule ListingError
@@ -135,6 +135,6 @@ abbrev pub HasBadEntry : List CTLEntry → List ℕ → ℤ → Rule ListingErro
 HasBadEntry entries name now e =
     (entry : CTLEntry) × IsEntryOf entries name entry × IsFirstBroken (entry_rules entry now) e
 
--- The rules of a name, in their order.
+-- The rules for a name, in their order.
 abbrev pub listing_rules : List CTLEntry → List ℕ → ℤ → List (Rule ListingError)
 listing_rules entries name now = HasNoEntry entries name ∷ HasBadEntry entries name now ∷ []

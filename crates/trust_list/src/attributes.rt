@@ -11,7 +11,7 @@ use asn1_types::oids::KP_CODE_SIGNING;
 use cms_content::{CTLEntry, CTLEntryAttribute, CTLEntryAttributeValues, CtlKind, HeldPurposes};
 use der_core::{Octets, is_same};
 
-/// The values of the time of the end, where the entry has one.
+/// The values of the first not-after time of the entry, if it has one.
 pub(crate) fn ends_of(entry: &CTLEntry) -> Option<&[Octets]>
     ensures { MatchOption result
         ((times : List (List ℕ)) → HasEnds entry.now times → ⊥)
@@ -27,7 +27,7 @@ pub(crate) fn ends_of(entry: &CTLEntry) -> Option<&[Octets]>
     }
 }
 
-/// The values of the time of the beginning, where the entry has one.
+/// The values of the first not-before time of the entry, if it has one.
 pub(crate) fn begins_of(entry: &CTLEntry) -> Option<&[Octets]>
     ensures { MatchOption result
         ((times : List (List ℕ)) → HasBegins entry.now times → ⊥)
@@ -43,7 +43,7 @@ pub(crate) fn begins_of(entry: &CTLEntry) -> Option<&[Octets]>
     }
 }
 
-/// The purposes of which the time of the beginning is said, where the entry has such.
+/// The extended key usages to which the not-before time applies, if the entry has such.
 pub(crate) fn usages_of(entry: &CTLEntry) -> Option<&[HeldPurposes]>
     ensures { MatchOption result
         ((usages : List HeldPurposes) → HasUsages entry.now usages → ⊥)
@@ -80,7 +80,7 @@ fn is_of_kind(attribute: &CTLEntryAttribute, kind: CtlKind) -> bool
     attribute.value.kind() == kind
 }
 
-/// Whether the attribute is this digest of a name, by its first value.
+/// Whether the attribute is the digest of a name, and its first value this one.
 pub(crate) fn is_digest(attribute: &CTLEntryAttribute, digest: &[u8]) -> bool
     ensures { IsTrue result ↔ IsDigest digest.now attribute.now }
 {
@@ -93,7 +93,7 @@ pub(crate) fn is_digest(attribute: &CTLEntryAttribute, digest: &[u8]) -> bool
     }
 }
 
-/// Whether one of the purposes is code signing (RFC 5280 4.2.1.12).
+/// Whether one of the extended key usages is code signing (RFC 5280 4.2.1.12).
 pub(crate) fn is_for_code_signing(purposes: &[ObjectIdentifier]) -> bool
     ensures { IsTrue result ↔ HoldsOfSome IsCodeSigning purposes.now }
 {
@@ -105,7 +105,7 @@ pub(crate) fn is_for_code_signing(purposes: &[ObjectIdentifier]) -> bool
     false
 }
 
-/// Whether the purpose is code signing.
+/// Whether the extended key usage is code signing.
 fn is_code_signing(purpose: &ObjectIdentifier) -> bool
     ensures { IsTrue result ↔ IsCodeSigning purpose.now }
 {

@@ -1,4 +1,4 @@
-//! Entries of a trust list, by the name of which they speak.
+//! Entries of a trust list by the name of their subject.
 
 ghost use Rattle.std.specs.Prelude.{◌↔◌, IsTrue, MatchOption};
 ghost use Rattle.trust_list.specs.Attributes.{HasDigest, IsDigest};
@@ -21,7 +21,7 @@ pub(crate) fn entry_of<'a>(entries: &'a [CTLEntry], digest: &[u8]) -> Option<&'a
     None
 }
 
-/// Whether some attribute is this digest of a name.
+/// Whether some attribute is this digest of a name, by its first value.
 fn has_digest(attributes: &[CTLEntryAttribute], digest: &[u8]) -> bool
     ensures { IsTrue result ↔ HoldsOfSome (IsDigest digest.now) attributes.now }
 {

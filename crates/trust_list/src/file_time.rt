@@ -6,7 +6,7 @@ ghost use Rattle.trust_list.specs.FileTime.{seconds_of};
 /// How many intervals of a FILETIME, of 100 nanoseconds each, make a second.
 const INTERVALS: i64 = 10_000_000;
 
-/// The time of a value in whole seconds, None exactly where it has fewer than eight octets.
+/// The time of a value in whole seconds. `None` exactly if it has fewer than eight octets.
 pub(crate) fn seconds_of(value: &[u8]) -> Option<i64>
     ensures { MatchOption result (length value.now < 8)
         (λ seconds. (8 ≤ length value.now) × (seconds ≡ seconds_of value.now)) }

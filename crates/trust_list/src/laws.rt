@@ -1,4 +1,4 @@
-//! Laws of the listing of a name.
+//! Laws on listings.
 
 ghost use Rattle.std.specs.Prelude.{◌≡◌, ℕ, ℤ, List};
 ghost use Rattle.cms_content.specs.declared.ctl_entry.CTLEntry.{CTLEntry};
@@ -6,8 +6,8 @@ ghost use Rattle.der_core.specs.Rules.{IsFirstBroken};
 ghost use Rattle.trust_list.specs.Listing.{IsListed, listing_rules};
 ghost use Rattle.trust_list.specs.declared.error.ListingError.{ListingError};
 
-/// A name that is listed breaks no rule, and of one that isn't the first broken rule is told once.
-/// So `expect_listed` has one answer.
+/// A name that is listed breaks no rule, and the first broken rule for one that isn't is reported by
+/// one error. So `expect_listed` has one result.
 pub fn listing_has_one_answer()
     ensures unbroken { (entries : List CTLEntry) (name : List ℕ) (now : ℤ) (e : ListingError)
         → IsListed entries name now → IsFirstBroken (listing_rules entries name now) e → ⊥ }

@@ -1,6 +1,6 @@
-//! Whether the name of a CA stands on a trust list, and until when (Microsoft, wincrypt.h:
+//! Whether the name of a CA is listed on a certificate trust list at a time (Microsoft, wincrypt.h:
 //! CTL_INFO, CTL_ENTRY and the properties CERT_SUBJECT_NAME_MD5_HASH, CERT_DISALLOWED_FILETIME,
-//! CERT_NOT_BEFORE_FILETIME and CERT_NOT_BEFORE_ENHKEY_USAGE). It takes no memory.
+//! CERT_NOT_BEFORE_FILETIME and CERT_NOT_BEFORE_ENHKEY_USAGE). Nothing is allocated.
 #![tactic(auto)]
 
 mod attributes;

@@ -1,8 +1,8 @@
-//! Whether the name of a CA is listed, step by step.
+//! Whether the name of a CA is listed, rule by rule.
 
 ghost use Rattle.std.specs.Prelude.{◌↔◌, IsTrue, MatchResult};
 ghost use Rattle.der_core.specs.Rules.{IsFirstBroken};
-ghost use Rattle.trust_list.specs.Listing.{BeginsWell, EndsWell, IsListed, IsSaidOfOthers, beginning_rules, end_rules, listing_rules};
+ghost use Rattle.trust_list.specs.Listing.{BeginsWell, EndsWell, IsListed, IsForOthers, beginning_rules, end_rules, listing_rules};
 
 use crate::attributes::{begins_of, ends_of, is_for_code_signing, usages_of};
 use crate::entries::entry_of;
@@ -11,10 +11,10 @@ use crate::file_time::seconds_of;
 use cms_content::CTLEntry;
 use md5::{Digest as _, Md5};
 
-/// The name of a CA, by its octets, is listed in the entries of a trust list at a time, in whole
-/// seconds since 1601-01-01, UTC. The first of these is answered that doesn't hold: an entry has
-/// the MD5 of the name; the first such one hasn't ended; it has begun, or its beginning isn't said
-/// of code signing.
+/// Checks that the name of a CA, given as its encoding, is listed in the entries of a trust list at
+/// a time, in whole seconds since 1601-01-01, UTC. Fails with the first of these that doesn't hold:
+/// an entry has the MD5 of the name; the first such entry hasn't ended; it has begun, or its
+/// not-before time doesn't apply to code signing.
 pub fn expect_listed(entries: &[CTLEntry], name: &[u8], now: i64) -> Result<(), ListingError>
     ensures { MatchResult result (λ _. IsListed entries.now name.now now)
         (IsFirstBroken (listing_rules entries.now name.now now)) }
@@ -27,7 +27,7 @@ pub fn expect_listed(entries: &[CTLEntry], name: &[u8], now: i64) -> Result<(), 
     expect_begun(entry, now)
 }
 
-/// The time of the end, where the entry has one, is at least now.
+/// Checks that the not-after time, if the entry has one, is at least now.
 fn expect_lasting(entry: &CTLEntry, now: i64) -> Result<(), ListingError>
     ensures { MatchResult result (λ _. EndsWell entry.now now)
         (IsFirstBroken (end_rules entry.now now)) }
@@ -47,7 +47,7 @@ fn expect_lasting(entry: &CTLEntry, now: i64) -> Result<(), ListingError>
     Ok(())
 }
 
-/// The time of the beginning, where the entry has one, is at most now, or it isn't said of code
+/// Checks that the not-before time, if the entry has one, is at most now, or doesn't apply to code
 /// signing.
 fn expect_begun(entry: &CTLEntry, now: i64) -> Result<(), ListingError>
     ensures { MatchResult result (λ _. BeginsWell entry.now now)
@@ -62,15 +62,15 @@ fn expect_begun(entry: &CTLEntry, now: i64) -> Result<(), ListingError>
     let Some(not_before) = seconds_of(first.as_slice()) else {
         return Err(ListingError::MalformedEntry);
     };
-    if not_before > now && !is_said_of_others(entry) {
+    if not_before > now && !is_for_others(entry) {
         return Err(ListingError::NotYetValid { not_before, now });
     }
     Ok(())
 }
 
-/// Whether the time of the beginning is said of purposes among which isn't code signing.
-fn is_said_of_others(entry: &CTLEntry) -> bool
-    ensures { IsTrue result ↔ IsSaidOfOthers entry.now }
+/// Whether the not-before time applies to extended key usages without code signing.
+fn is_for_others(entry: &CTLEntry) -> bool
+    ensures { IsTrue result ↔ IsForOthers entry.now }
 {
     let Some(usages) = usages_of(entry) else {
         return false;

@@ -1,0 +1,73 @@
+"""When the name of a CA is listed on a trust list at a time, and which refusal
+comes first otherwise (Microsoft, wincrypt.h), by Python's integers."""
+
+from hashlib import md5
+
+from judges.der_reader import read_exact
+
+PROPERTY = bytes.fromhex("2b0601040182370a0b")
+NAME_DIGEST, NOT_AFTER, NOT_BEFORE, USAGES = b"\x1d", b"\x68", b"\x7e", b"\x7f"
+CODE_SIGNING = bytes.fromhex("2b06010505070303")
+PER_SECOND = 10_000_000
+
+NOT_LISTED = "the CA isn't on the trust list"
+MALFORMED = "the CA's entry of the trust list is malformed"
+REVOKED = "the trust list revokes the CA"
+EXPIRED = "the trust list has the CA until {}, and now is {} (seconds since 1601)"
+NOT_YET_VALID = "the trust list has the CA from {} on, and now is {} (seconds since 1601)"
+
+
+def entries_of(octets):
+    """The entries of a list, each a list of pairs of kind and values."""
+    fields = [*read_exact(octets).kids]
+    if fields[-1].tag == 0xA0:
+        fields.pop()
+    return [[(pair.kids[0].contents, [*pair.kids[1].kids]) for pair in one.kids[1].kids] for one in fields[-1].kids]
+
+
+def values_of(entry, kind):
+    """The values of the first attribute of a kind, or None."""
+    return next((values for oid, values in entry if oid == PROPERTY + kind), None)
+
+
+def time_of(octets):
+    """Whole seconds, towards zero; None for fewer than eight octets."""
+    if len(octets) < 8:
+        return None
+    intervals = int.from_bytes(octets[:8], "little", signed=True)
+    return intervals // PER_SECOND if intervals >= 0 else -(-intervals // PER_SECOND)
+
+
+def is_of(entry, digest):
+    return any(oid == PROPERTY + NAME_DIGEST and values and values[0].contents == digest for oid, values in entry)
+
+
+def names_code_signing(value):
+    return any(purpose.contents == CODE_SIGNING for purpose in read_exact(value.contents).kids)
+
+
+def listing_line(octets, name, now):
+    """`listed`, or the text of the first refusal."""
+    digest = md5(name).digest()
+    entry = next((one for one in entries_of(octets) if is_of(one, digest)), None)
+    if entry is None:
+        return NOT_LISTED
+    ends = values_of(entry, NOT_AFTER)
+    if ends is not None:
+        if not ends:
+            return MALFORMED
+        not_after = time_of(ends[0].contents)
+        if not_after is None:
+            return REVOKED
+        if not_after < now:
+            return EXPIRED.format(not_after, now)
+    begins = values_of(entry, NOT_BEFORE)
+    if begins is not None:
+        not_before = time_of(begins[0].contents) if begins else None
+        if not_before is None:
+            return MALFORMED
+        usages = values_of(entry, USAGES)
+        is_of_others = bool(usages) and not names_code_signing(usages[0])
+        if not_before > now and not is_of_others:
+            return NOT_YET_VALID.format(not_before, now)
+    return "listed"
