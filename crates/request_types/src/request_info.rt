@@ -86,21 +86,8 @@ fn expect_attributes(elem: Option<Elem<'_>>) -> Option<()>
         (λ _. Fits (SpellsOption AreAttributes) (at_option elem.entry)) }
 {
     match elem {
-        Some(elem) => expect_list(elem),
-        None => Some(()),
-    }
-}
-
-/// `Some` if the element encodes attributes.
-fn expect_list(elem: Elem<'_>) -> Option<()>
-    ensures { MatchOption result
-        ((attributes : List Attribute) → AreAttributes elem.entry.is.0 attributes → ⊥)
-        (λ _. Fits AreAttributes elem.entry.is.0) }
-{
-    if has_list::<Attribute>(elem, ATTRIBUTES) {
-        Some(())
-    } else {
-        None
+        Some(elem) if !has_list::<Attribute>(elem, ATTRIBUTES) => None,
+        _ => Some(()),
     }
 }
 
