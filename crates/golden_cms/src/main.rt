@@ -6,8 +6,8 @@
 //! golden_cms FILE TIMES
 //! ```
 //!
-//! A vector is a call and its arguments, separated by spaces: `structure KIND OCTETS`,
-//! `both pkcs7 OCTETS`, `unlike KIND OCTETS OCTETS`, `members KIND OCTETS`, `make string TEXT`,
+//! A vector is a call, a kind and arguments, separated by spaces: `structure KIND OCTETS`,
+//! `unlike KIND OCTETS OCTETS`, `both pkcs7 OCTETS`, `members KIND OCTETS`, `make string TEXT`,
 //! `make sha NAME` or `listed name LIST OCTETS SECONDS`. Octets and texts are in hexadecimal, `-`
 //! for none. A line is printed for each vector. `tools/golden/golden_value.py` makes vectors and
 //! golden output.

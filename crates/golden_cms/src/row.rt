@@ -6,16 +6,11 @@ use std::alloc::Global;
 
 /// Prints the output for a vector.
 pub fn print(alloc: Global, args: Args<'_>, line: &mut Line) {
-    match args.split() {
-        Some((call, args)) => print_kind(alloc, call, args, line),
-        None => line.no_call(),
-    }
-}
-
-fn print_kind(alloc: Global, call: &str, args: Args<'_>, line: &mut Line) {
-    match args.split() {
-        Some((kind, args)) => print_call(alloc, (call, kind), args, line),
-        None => line.no_call(),
+    match (args.words, args.octets) {
+        ([call, kind, words @ ..], [_, _, octets @ ..]) => {
+            print_call(alloc, (call, kind), Args { words, octets }, line)
+        }
+        _ => line.no_call(),
     }
 }
 

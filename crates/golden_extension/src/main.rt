@@ -5,9 +5,10 @@
 //! golden_extension FILE
 //! ```
 //!
-//! A vector is a subject, a call and its arguments, separated by spaces. Octets and texts are in
-//! hexadecimal, `-` for none, other numbers in decimal. A line is printed for each vector.
-//! `tools/golden/golden_value.py` makes vectors and golden output.
+//! A vector is a call, a kind and arguments, separated by spaces: `structure KIND OCTETS`,
+//! `unlike KIND OCTETS OCTETS`, `find general_names OCTETS`, or `make KIND PARTS` with the arguments
+//! of each kind. Octets and texts are in hexadecimal, `-` for none, other numbers in decimal. A line
+//! is printed for each vector. `tools/golden/golden_value.py` makes vectors and golden output.
 #![tactic(auto)]
 
 mod attribute_details;
@@ -17,9 +18,9 @@ mod general_details;
 mod general_finding;
 mod general_making;
 mod making;
-mod reading;
 mod request_details;
 mod row;
+mod structures;
 
 use anyhow::{Result, bail};
 use golden::print_rows;

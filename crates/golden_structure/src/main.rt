@@ -5,9 +5,11 @@
 //! golden_structure FILE
 //! ```
 //!
-//! A vector is a subject, a call and its arguments, separated by spaces. Octets and texts are in
-//! hexadecimal, `-` for none, other numbers in decimal. A line is printed for each vector.
-//! `tools/golden/golden_value.py` makes vectors and golden output.
+//! A vector is a call, a kind and arguments, separated by spaces: `structure KIND OCTETS`,
+//! `unlike KIND OCTETS OCTETS`, or `make`, `key`, `point`, `private`, `signature` or `view` with the
+//! arguments of each kind. Octets and texts are in hexadecimal, `-` for none, other numbers in
+//! decimal. A line is printed for each vector. `tools/golden/golden_value.py` makes vectors and
+//! golden output.
 #![tactic(auto)]
 
 mod details;

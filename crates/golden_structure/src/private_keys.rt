@@ -42,13 +42,13 @@ pub fn print_refusal(why: NoKey, line: &mut Line) {
 /// The key that is read or made.
 pub fn key_of(alloc: Global, call: &str, args: Args<'_>) -> Result<PrivateKey, NoKey> {
     match (call, args.octets) {
-        ("pkcs8", [Some(octets)]) => told(PrivateKey::from_pkcs8(
+        ("pkcs8", [Some(octets)]) => made(PrivateKey::from_pkcs8(
             alloc,
             octets,
             &DemoScheme::new(),
         )),
-        ("pkcs1", [Some(octets)]) => told(PrivateKey::from_pkcs1(alloc, octets)),
-        ("sec1", [Some(octets)]) => told(PrivateKey::from_ec_der(
+        ("pkcs1", [Some(octets)]) => made(PrivateKey::from_pkcs1(alloc, octets)),
+        ("sec1", [Some(octets)]) => made(PrivateKey::from_ec_der(
             alloc,
             octets,
             &DemoScheme::new(),
@@ -59,7 +59,7 @@ pub fn key_of(alloc: Global, call: &str, args: Args<'_>) -> Result<PrivateKey, N
     }
 }
 
-fn told(key: Result<PrivateKey, KeyError>) -> Result<PrivateKey, NoKey> {
+fn made(key: Result<PrivateKey, KeyError>) -> Result<PrivateKey, NoKey> {
     match key {
         Ok(key) => Ok(key),
         Err(error) => Err(NoKey::Refused(error)),
@@ -72,7 +72,7 @@ fn on_curve(alloc: Global, call: &str, curve: &[u8], octets: &[u8]) -> Result<Pr
         "sec1_on" => {
             let curve = oid_of(alloc, curve)?;
             let scheme = DemoScheme::new();
-            told(PrivateKey::from_ec_der_with_curve_oid(alloc, octets, curve, &scheme))
+            made(PrivateKey::from_ec_der_with_curve_oid(alloc, octets, curve, &scheme))
         }
         "sec1_on_known" => on_known_curve(alloc, curve, octets, &DemoScheme::new()),
         "refused" => refused(alloc, curve, octets),
@@ -87,7 +87,7 @@ fn on_known_curve<S: Scheme>(
     scheme: &S,
 ) -> Result<PrivateKey, NoKey> {
     let curve = known_curve(curve)?;
-    told(PrivateKey::from_ec_der_with_curve(alloc, octets, curve, scheme))
+    made(PrivateKey::from_ec_der_with_curve(alloc, octets, curve, scheme))
 }
 
 /// The key on a supported curve under a scheme that derives nothing.
@@ -108,7 +108,7 @@ fn of_parts(
     match (call, args.octets) {
         ("coordinates", [_, _, Some(x), Some(y)]) => {
             let curve = known_curve(id)?;
-            told(PrivateKey::from_ec_components(alloc, curve, secret, x, y))
+            made(PrivateKey::from_ec_components(alloc, curve, secret, x, y))
         }
         ("ec_encoded", [_, _, _]) => ec_encoded(alloc, id, secret, args.given(2)?),
         ("ed_encoded", [_, _, _]) => ed_encoded(alloc, id, secret, args.given(2)?),
@@ -175,14 +175,14 @@ fn print_key(alloc: Global, key: &PrivateKey, line: &mut Line) {
 
 fn print_octets(alloc: Global, key: &PrivateKey, octets: &[u8], line: &mut Line) {
     line.octets(octets);
-    print_told(is_copied(alloc, key), line);
-    print_told(is_read_of(alloc, key, octets), line);
+    print_flag(is_copied(alloc, key), line);
+    print_flag(is_read_of(alloc, key, octets), line);
 }
 
 /// Prints the flag, or the text of the refusal.
-fn print_told(told: Result<bool, KeyError>, line: &mut Line) {
-    match told {
-        Ok(told) => line.shown(&told),
+fn print_flag(flag: Result<bool, KeyError>, line: &mut Line) {
+    match flag {
+        Ok(flag) => line.shown(&flag),
         Err(error) => line.shown(&error),
     }
 }

@@ -6,29 +6,29 @@ use std::alloc::Global;
 
 /// Prints the output for a vector.
 pub fn print(alloc: Global, args: Args<'_>, line: &mut Line) {
-    match args.split() {
-        Some((subject, args)) => print_subject(alloc, subject, args, line),
-        None => line.no_call(),
+    match (args.words, args.octets) {
+        ([call, kind, words @ ..], [_, _, octets @ ..]) => {
+            print_call(alloc, (call, kind), Args { words, octets }, line)
+        }
+        _ => line.no_call(),
     }
 }
 
-fn print_subject(alloc: Global, subject: &str, args: Args<'_>, line: &mut Line) {
-    match args.split() {
-        Some((call, args)) => print_call(alloc, (subject, call), args, line),
-        None => line.no_call(),
-    }
-}
-
-fn print_call(alloc: Global, (subject, call): (&str, &str), args: Args<'_>, line: &mut Line) {
-    match subject {
-        "structure" => structures::print(alloc, call, args.octets, line),
-        "unlike" => structures::print_unlike(alloc, call, args.octets, line),
-        "make" => making::print(alloc, call, args, line),
-        "key" => keys::print(alloc, call, args, line),
-        "point" => points::print(alloc, call, args.octets, line),
-        "private" => private_keys::print(alloc, call, args, line),
-        "signature" => signatures::print(alloc, call, args, line),
-        "view" => views::print(alloc, call, args, line),
+fn print_call(alloc: Global, (call, kind): (&str, &str), args: Args<'_>, line: &mut Line) {
+    match (call, args.octets) {
+        ("structure", [Some(element)]) => structures::print(alloc, kind, element, line),
+        ("unlike", [Some(one), Some(other)]) => structures::print_unlike(
+            alloc,
+            kind,
+            (one, other),
+            line,
+        ),
+        ("make", _) => making::print(alloc, kind, args, line),
+        ("key", _) => keys::print(alloc, kind, args, line),
+        ("point", octets) => points::print(alloc, kind, octets, line),
+        ("private", _) => private_keys::print(alloc, kind, args, line),
+        ("signature", _) => signatures::print(alloc, kind, args, line),
+        ("view", _) => views::print(alloc, kind, args, line),
         _ => line.no_call(),
     }
 }

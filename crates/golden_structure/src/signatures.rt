@@ -193,7 +193,7 @@ fn print_own<S: Scheme>(
     line: &mut Line,
 ) {
     match key.to_public_key(alloc) {
-        Ok(key) => print_told(alloc, algorithm, &key, signed, scheme, line),
+        Ok(key) => print_verdict(alloc, algorithm, &key, signed, scheme, line),
         Err(error) => line.shown(&error),
     }
 }
@@ -219,16 +219,16 @@ fn print_verdicts(
     signed: (&[u8], &[u8]),
     line: &mut Line,
 ) {
-    print_told(alloc, algorithm, key, signed, &DemoScheme::new(), line);
+    print_verdict(alloc, algorithm, key, signed, &DemoScheme::new(), line);
     line.mark(";");
     match VerdictTable::parse(alloc, &[]) {
-        Ok(table) => print_told(alloc, algorithm, key, signed, &table, line),
+        Ok(table) => print_verdict(alloc, algorithm, key, signed, &table, line),
         Err(error) => line.shown(&error),
     }
 }
 
 /// `accepted`, or the text of the refusal.
-fn print_told<S: Scheme>(
+fn print_verdict<S: Scheme>(
     alloc: Global,
     algorithm: SignatureAlgorithm,
     key: &PublicKey,

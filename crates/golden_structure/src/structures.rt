@@ -14,10 +14,7 @@ use x509_types::{
 };
 
 /// Prints what is read from an element.
-pub fn print(alloc: Global, kind: &str, args: &[Option<Vec<u8>>], line: &mut Line) {
-    let [Some(element)] = args else {
-        return line.no_call();
-    };
+pub fn print(alloc: Global, kind: &str, element: &[u8], line: &mut Line) {
     match kind {
         "integer" => read_of::<IntegerAsn1>(alloc, element, line),
         "bits" => read_of::<BitString>(alloc, element, line),
@@ -46,10 +43,7 @@ fn print_key(alloc: Global, kind: &str, element: &[u8], line: &mut Line) {
 }
 
 /// Whether two elements encode equal values.
-pub fn print_unlike(alloc: Global, kind: &str, args: &[Option<Vec<u8>>], line: &mut Line) {
-    let [Some(one), Some(other)] = args else {
-        return line.no_call();
-    };
+pub fn print_unlike(alloc: Global, kind: &str, (one, other): (&[u8], &[u8]), line: &mut Line) {
     let equal = match kind {
         "integer" => are_equal::<IntegerAsn1>(alloc, one, other),
         "bits" => are_equal::<BitString>(alloc, one, other),

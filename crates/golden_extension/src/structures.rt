@@ -19,6 +19,19 @@ pub fn print(alloc: Global, kind: &str, element: &[u8], line: &mut Line) {
     }
 }
 
+/// Whether two elements encode equal values.
+pub fn print_unlike(alloc: Global, kind: &str, (one, other): (&[u8], &[u8]), line: &mut Line) {
+    let equal = match kind {
+        "extension" => are_equal::<Extension>(alloc, one, other),
+        "general_names" => are_equal::<RawGeneralNames>(alloc, one, other),
+        "validity" => are_equal::<Validity>(alloc, one, other),
+        "valued_attribute" => are_equal::<Attribute>(alloc, one, other),
+        "request" => are_equal::<CertificationRequest>(alloc, one, other),
+        _ => return line.no_call(),
+    };
+    line.equal(equal);
+}
+
 /// Whether the value round-trips, and its details; or that there is none.
 fn read_of<T: Structure + PartialEq + Details>(alloc: Global, element: &[u8], line: &mut Line) {
     match value_of::<T>(alloc, element) {
@@ -35,17 +48,4 @@ fn print_value<T: Structure + PartialEq + Details>(
 ) {
     line.same(comes_back(alloc, element, value));
     value.print(alloc, line);
-}
-
-/// Whether two elements encode equal values.
-pub fn print_unlike(alloc: Global, kind: &str, (one, other): (&[u8], &[u8]), line: &mut Line) {
-    let equal = match kind {
-        "extension" => are_equal::<Extension>(alloc, one, other),
-        "general_names" => are_equal::<RawGeneralNames>(alloc, one, other),
-        "validity" => are_equal::<Validity>(alloc, one, other),
-        "valued_attribute" => are_equal::<Attribute>(alloc, one, other),
-        "request" => are_equal::<CertificationRequest>(alloc, one, other),
-        _ => return line.no_call(),
-    };
-    line.equal(equal);
 }
