@@ -56,15 +56,16 @@ pub record IsVouchedFor (words : List (List ℕ)) (shelf shelf_now : ShelfState)
   pub unexcused : accepted.excuse ≡ excuses.None
   pub written : Appends held (accepted_line accepted) held_now
 
--- The words are check SIG TABLE HASH DATE and options, and these files vouch for HASH. If the sink
--- exposes its contents, exactly the line of the acceptance has been appended: the index of the
--- signer's certificate, a path and an excuse. That certificate is valid at DATE: its validity has
--- begun by then, or by the date of --until, and hasn't ended before, except for what the options
--- leave out. The path is its issuer path, or empty under --no-chain. Each certificate of the path is
--- valid too and may have issued the one before it: it is a CA certificate, its path length allows
--- those between, names and key identifiers agree, and the table accepts the signature over the
--- octets in the file. An excuse is reported only for an expired certificate whose expiry it excuses,
--- and waives the not-after date of that certificate alone.
+-- The words are check SIG TABLE HASH DATE and options, and these files vouch for HASH. If the
+-- sink exposes its contents, exactly the line of the acceptance has been appended: the index of
+-- the signer's certificate, a path and an excuse. The validity of that certificate has begun by
+-- DATE, or by the date of --until, and without an excuse it hasn't ended before DATE, except for
+-- what the options leave out. The path is its issuer path, or empty under --no-chain. Each
+-- certificate of the path is valid and may have issued the one before it: it is a CA
+-- certificate, its path length allows those between, names and key identifiers agree, and the
+-- table accepts the signature over the octets in the file. An excuse is reported only if the
+-- signer's certificate has expired, excuses this, and waives the not-after date of that
+-- certificate alone.
 pub record IsVouchedSignature (words : List (List ℕ)) (shelf shelf_now : ShelfState)
     (held held_now : Option (List ℕ)) : Type 0 where
   pub signature : List ℕ

@@ -24,7 +24,7 @@ moments date None = dates.Exact date
 moments date (Some other) = dates.Interval date other
 
 -- check: the same, and the signer's certificate with those of its issuers, all of them valid at
--- DATE, except for what the options leave out
+-- DATE or the signer's expiry excused, except for what the options leave out
 abbrev pub check_policy : (hash : List ℕ) → (date : GeneralizedTime) → CheckOptions → Policy
 check_policy hash date o = record {
   basic = true;

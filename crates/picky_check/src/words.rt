@@ -25,7 +25,8 @@ pub(crate) enum Job<'a> {
         table: &'a str,
         hash: Vec<u8>,
     },
-    /// The same, and the signer's certificate with those of its issuers, at a date or from it on.
+    /// The same, and the signer's certificate with those of its issuers, at a date or over an
+    /// interval.
     Check {
         signature: &'a str,
         table: &'a str,

@@ -11,7 +11,7 @@ use thiserror::Error;
 pub enum ListingError {
     /// No entry has the MD5 of the name.
     NotListed,
-    /// The entry's first attribute of a kind has no value, or its not-before time isn't one.
+    /// The entry's not-after or not-before time has no value, or its not-before time isn't one.
     MalformedEntry,
     /// The entry's not-after time isn't one, which revokes it.
     Revoked,

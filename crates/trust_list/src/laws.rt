@@ -6,8 +6,8 @@ ghost use Rattle.der_core.specs.Rules.{IsFirstBroken};
 ghost use Rattle.trust_list.specs.Listing.{IsListed, listing_rules};
 ghost use Rattle.trust_list.specs.declared.error.ListingError.{ListingError};
 
-/// A name that is listed breaks no rule, and the first broken rule for one that isn't is reported by
-/// one error. So `expect_listed` has one result.
+/// A name that is listed breaks no rule, and the first broken rule for one that isn't is reported
+/// by one error. So `expect_listed` has one result.
 pub fn listing_has_one_answer()
     ensures unbroken { (entries : List CTLEntry) (name : List ℕ) (now : ℤ) (e : ListingError)
         → IsListed entries name now → IsFirstBroken (listing_rules entries name now) e → ⊥ }
