@@ -24,9 +24,17 @@ fn listed_until(rt: HostRuntime) -> Result<(), Fail> {
     let last = 13_400_000_000;
     let now = last + 1;
     assert_eq!(rt; refusal(rt.alloc(), &list, &name, last)?, None);
-    assert_eq!(rt; refusal(rt.alloc(), &list, &name, now)?,
-        Some(ListingError::Expired { not_after: last, now }));
-    assert_eq!(rt; refusal(rt.alloc(), &list, &name[..0], now)?, Some(ListingError::NotListed));
+    assert_eq!(rt;
+        refusal(rt.alloc(), &list, &name, now)?,
+        Some(ListingError::Expired {
+            not_after: last,
+            now
+        })
+    );
+    assert_eq!(rt;
+        refusal(rt.alloc(), &list, &name[..0], now)?,
+        Some(ListingError::NotListed)
+    );
     Ok(())
 }
 
