@@ -5,19 +5,19 @@ This judge exists to be compared with the project's own.  It goes on where
 `chain_reader` says, and both are written from the rules alone (RFC 5652, RFC 5280,
 the Windows Authenticode Portable Executable Signature Format).
 
-The header and the value are asked under every policy, steps 1 to 13 where it has
-`basic`, and these where it has `signing`:
+The header and the value are asked under every policy, the steps of `basic_judge`
+where it has `basic`, and these where it has `signing`:
 
-  14           there is a signer, `MultipleSignerInfo`; the first one is named by
+  certificate  there is a signer, `MultipleSignerInfo`; the first one is named by
                issuer and serial number, `IncorrectSignerIdentifier`; and a
                certificate has both: `NoCertificatesAssociatedWithIssuerAndSerialNumber`;
-  15           where one end of validities is looked at there is a date,
+  chain        where one end of validities is looked at there is a date,
                `MissingBuilderArgument`; where there is one the signer's certificate
                is valid then, `CertificateNotYetValid`, `CertificateExpired`; and where
                the chain is asked for each certificate of the path may have issued
                the one before it.
 
-The path are the certificates of the issuer walk that have another subject than the
+The path is the certificates of the issuer walk that have another subject than the
 signer's.  Where the signer's certificate is expired, an excuse is looked for; where
 there is one, the path is asked for as without one:
 
@@ -204,7 +204,7 @@ def expect_chain(checked, parents, window, table):
 # The steps.
 
 def signer_of(signed):
-    """Step 14: the first signer, and its certificate."""
+    """The first signer, and its certificate."""
     refuse_unless(signed.signers, "MultipleSignerInfo", 0)
     signer = Signer(signed.signers[0])
     return signer, signers_certificate(signer, signed.bag)
@@ -216,7 +216,7 @@ def path_of(bag, one):
 
 
 def check_signing(signed, policy, table):
-    """Steps 14 and 15: the places of the path, and the excuse."""
+    """The indexes of the path, and the excuse, of the signer's certificate."""
     signer, one = signer_of(signed)
     refuse_unless(policy.lower or not (policy.not_before or policy.not_after), "MissingBuilderArgument", "missing required builder argument `now`")
     window = Window(policy.lower, policy.upper or policy.lower, policy.not_before, policy.not_after)
