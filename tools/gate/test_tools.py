@@ -617,8 +617,10 @@ class ChainsTest(unittest.TestCase):
         self.assertEqual([line.split()[0] for line in lines], ["p384-sha384", "p256-sha256", "rsa-sha512"])
         self.assertLessEqual(set(lines), set(chains.stored_table().splitlines()))
         self.assertEqual(lacking, [])
-        _, lacking = verdict_table.chain_table([certificates["no identifier"], certificates["namesake"]])
-        self.assertEqual(lacking, ["certificate 0: not accepted as rsa-sha256"])
+        # By another key than the namesake's; the second signature's number is past the namesake's modulus too (RFC 8017 5.2.2).
+        for label, why in ("names another key", "not accepted"), ("no identifier", "malformed"):
+            _, lacking = verdict_table.chain_table([certificates[label], certificates["namesake"]])
+            self.assertEqual(lacking, [f"certificate 0: {why} as rsa-sha256"], label)
 
 
 @unittest.skipUnless(which("openssl"), "openssl isn't there")
