@@ -214,11 +214,11 @@ impl Cert {
         &self.rest.signature
     }
 
-    /// The signature algorithm outside the TBSCertificate (RFC 5280 4.1.1.2).
-    pub(crate) fn outer_algorithm(&self) -> &AlgorithmIdentifier
-        ensures { result.now ≡ self.now.certificate.signature_algorithm }
+    /// The issuer's name (RFC 5280 4.1.2.4).
+    pub fn issuer_name(&self, alloc: Global) -> Result<DirectoryName, AllocError>
+        ensures { IfOk result (λ copy. sets_of copy ≡ self.now.certificate.tbs_certificate.issuer) }
     {
-        &self.rest.signature_algorithm
+        Ok(DirectoryName::from(self.rest.issuer.try_clone(alloc)?))
     }
 
     /// The first second of the validity (RFC 5280 4.1.2.5).
@@ -237,14 +237,12 @@ impl Cert {
         date_of(&self.rest.validity.not_after)
     }
 
-    /// The extensions in order, empty if the field is absent (RFC 5280 4.1.2.9).
-    pub fn extensions(&self) -> &[Extension]
-        ensures { result.now ≡ extensions_in self.now.certificate.tbs_certificate.extensions }
+    /// The subject's name (RFC 5280 4.1.2.6).
+    pub fn subject_name(&self, alloc: Global) -> Result<DirectoryName, AllocError>
+        ensures { IfOk result
+            (λ copy. sets_of copy ≡ self.now.certificate.tbs_certificate.subject) }
     {
-        match &self.rest.extensions {
-            Some(extensions) => extensions.as_slice(),
-            None => &[],
-        }
+        Ok(DirectoryName::from(self.rest.subject.try_clone(alloc)?))
     }
 
     /// The subject's key with its algorithm (RFC 5280 4.1.2.7).
@@ -267,19 +265,21 @@ impl Cert {
         public_key
     }
 
-    /// The subject's name (RFC 5280 4.1.2.6).
-    pub fn subject_name(&self, alloc: Global) -> Result<DirectoryName, AllocError>
-        ensures { IfOk result
-            (λ copy. sets_of copy ≡ self.now.certificate.tbs_certificate.subject) }
+    /// The extensions in order, empty if the field is absent (RFC 5280 4.1.2.9).
+    pub fn extensions(&self) -> &[Extension]
+        ensures { result.now ≡ extensions_in self.now.certificate.tbs_certificate.extensions }
     {
-        Ok(DirectoryName::from(self.rest.subject.try_clone(alloc)?))
+        match &self.rest.extensions {
+            Some(extensions) => extensions.as_slice(),
+            None => &[],
+        }
     }
 
-    /// The issuer's name (RFC 5280 4.1.2.4).
-    pub fn issuer_name(&self, alloc: Global) -> Result<DirectoryName, AllocError>
-        ensures { IfOk result (λ copy. sets_of copy ≡ self.now.certificate.tbs_certificate.issuer) }
+    /// The signature algorithm outside the TBSCertificate (RFC 5280 4.1.1.2).
+    pub(crate) fn outer_algorithm(&self) -> &AlgorithmIdentifier
+        ensures { result.now ≡ self.now.certificate.signature_algorithm }
     {
-        Ok(DirectoryName::from(self.rest.issuer.try_clone(alloc)?))
+        &self.rest.signature_algorithm
     }
 
     /// A copy of the certificate.
