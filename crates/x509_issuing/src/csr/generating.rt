@@ -62,10 +62,10 @@ impl Csr {
     }
 
     /// A request for this name, the private key's public key and these attributes, signed by the
-    /// private key (RFC 2986 4.2). The first error is returned: `PrivateKeyToPublicKey` where there
-    /// is no public key, `Asn1Serialization` where the CertificationRequestInfo can't be written,
-    /// `Signature` where it can't be signed, and then where the algorithm has no OID,
-    /// `Asn1Serialization` where the request can't be written.
+    /// private key (RFC 2986 4.2). The first error is returned: `PrivateKeyToPublicKey` if there is
+    /// no public key, `Asn1Serialization` if the CertificationRequestInfo can't be written,
+    /// `Signature` if it can't be signed, and then if the algorithm has no OID, `Asn1Serialization`
+    /// if the request can't be written.
     pub fn generate_with_attributes<S: Scheme>(
         alloc: Global,
         subject: DirectoryName,
