@@ -30,6 +30,7 @@ pub mod OnePath
 pub mod WalkedAll
 pub mod OtherSteps
 pub mod LinkedPlaces
+pub mod LastAuthority
 pub mod KeptOctets
 pub mod BasicOrder
 pub mod SignerOrder

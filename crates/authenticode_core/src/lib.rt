@@ -6,6 +6,7 @@
 #![tactic(auto)]
 
 mod accepted;
+mod authority;
 mod basic;
 mod digest;
 mod error;

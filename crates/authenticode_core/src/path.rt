@@ -16,7 +16,7 @@ ghost use Rattle.authenticode_core.specs.Places.{StandsAt};
 ghost use Rattle.authenticode_core.specs.SigningRules.{IsBagOf};
 
 pub(crate) mod issuer_walk;
-mod others;
+pub(crate) mod others;
 
 use crate::accepted::Places;
 use crate::path::others::Others;

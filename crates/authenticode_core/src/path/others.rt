@@ -30,7 +30,7 @@ pub(crate) struct Others<'a> {
 
 impl<'a> Source<'a> {
     /// The next certificate, with its index in the bag.
-    fn next(&mut self) -> Option<BagCertificate<'a>>
+    pub(crate) fn next(&mut self) -> Option<BagCertificate<'a>>
         ensures fewer { IfSome result
             (λ _. length (unread_members self.new) < length (unread_members self.old)) }
         ensures next { (bag : List CertificateElements) (places : List ℕ)
