@@ -9,6 +9,8 @@ use Rattle.wincert_core.specs.declared.error.WinCertificateError.{WinCertificate
 use Rattle.wincert_core.specs.declared.error.WinCertificateError.TheVariants as headers
 use Rattle.x509_core.specs.declared.error.CertError.{CertError}
 use Rattle.x509_core.specs.declared.error.CertError.TheVariants as certs
+use Rattle.authenticode_core.specs.declared.ctl_error.CtlError.{CtlError}
+use Rattle.authenticode_core.specs.declared.ctl_error.CtlError.TheVariants as ctl
 use Rattle.authenticode_core.specs.declared.error.AuthenticodeError.{AuthenticodeError}
 use Rattle.authenticode_core.specs.declared.error.AuthenticodeError.TheVariants as contents
 use Rattle.authenticode_core.specs.declared.error.CheckError.{CheckError}
@@ -33,6 +35,11 @@ of_certificates e = contents.CertError e
 abbrev pub of_signatures : SignatureError → AuthenticodeError
 of_signatures signatures.Memory = contents.Memory
 of_signatures e = contents.SignatureError e
+
+-- the error for one of a trust list
+abbrev pub of_ctl : CtlError → AuthenticodeError
+of_ctl ctl.Memory = contents.Memory
+of_ctl e = contents.CtlError e
 
 -- the error for one of an encoding
 abbrev pub of_der : DerError → AuthenticodeError

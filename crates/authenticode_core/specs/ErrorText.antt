@@ -1,5 +1,6 @@
 -- The texts of errors.
 use Rattle.std.specs.Prelude.{ℕ, List, ◌++◌, codes, decimal}
+use Rattle.std.specs.Fmt.{signed_decimal}
 use Rattle.asn1_types.specs.Values.{integer_contents}
 use Rattle.der_core.specs.ErrorText.{der_error_text}
 use Rattle.hex.specs.Hex.{encode_lower}
@@ -10,6 +11,8 @@ use Rattle.names_core.specs.declared.name.DirectoryName.{DirectoryName}
 use Rattle.sig_core.specs.ErrorText.{unsupported_hash_text, unsupported_algorithm_text}
 use Rattle.wincert_core.specs.ErrorText.{error_text}
 use Rattle.x509_core.specs.ErrorText.{cert_error_text}
+use Rattle.authenticode_core.specs.declared.ctl_error.CtlError.{CtlError}
+use Rattle.authenticode_core.specs.declared.ctl_error.CtlError.TheVariants as ctl
 use Rattle.authenticode_core.specs.declared.error.AuthenticodeError.{AuthenticodeError}
 use Rattle.authenticode_core.specs.declared.error.AuthenticodeError.TheVariants as contents
 use Rattle.authenticode_core.specs.declared.error.CheckError.{CheckError}
@@ -49,6 +52,14 @@ timestamp_error_text (stamps.Asn1DerError e) = cert_error_text e
 timestamp_error_text stamps.TimestampTokenEmpty = codes "the token or the signed data has no signer"
 timestamp_error_text stamps.Memory = codes "out of memory"
 
+-- why octets aren't read as a trust list, or a CA isn't looked up on one
+abbrev pub ctl_error_text : CtlError → List ℕ
+ctl_error_text (ctl.FailedToParseCtl e) = pkcs7_error_text e
+ctl_error_text ctl.NoContent = codes "the trust list has no content"
+ctl_error_text ctl.IncorrectContentValue = codes "the content of the trust list is another one"
+ctl_error_text ctl.MalformedEntry = codes "an entry of the trust list is malformed"
+ctl_error_text ctl.Memory = codes "out of memory"
+
 -- why signed data is refused
 abbrev pub content_error_text : AuthenticodeError → List ℕ
 content_error_text (contents.CertError e) = cert_error_text e
@@ -80,6 +91,15 @@ content_error_text contents.NoEKUCodeSigning =
 content_error_text contents.MissingExpectedFileHash = codes "no digest of the file is given"
 content_error_text (contents.InvalidTimestampCert e) =
     codes "certificate of the time stamp: " ++ cert_error_text e
+content_error_text (contents.CtlError e) = ctl_error_text e
+content_error_text contents.CAIsNotTrusted = codes "the CA is not on the trust list"
+content_error_text contents.CaCertificateRevoked = codes "the trust list has revoked the CA"
+content_error_text (contents.CaCertificateExpired not_after now) =
+    codes "the CA was on the trust list until " ++ signed_decimal not_after
+    ++ codes ", and it is " ++ signed_decimal now
+content_error_text (contents.CaCertificateNotYetValid not_before now) =
+    codes "the CA is on the trust list from " ++ signed_decimal not_before
+    ++ codes ", and it is " ++ signed_decimal now
 content_error_text contents.ProgramNameCharSet =
     codes "the name of the program has a character past U+FFFF"
 content_error_text contents.NoCertificates = codes "the signed data has no certificates"

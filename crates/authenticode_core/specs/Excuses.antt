@@ -3,7 +3,8 @@
 -- Authenticode Portable Executable Signature Format). The signature and the time of a token aren't
 -- checked. An excuse waives the not-after date of the signer's certificate alone: its not-before
 -- date and its issuer path are checked as without an excuse.
-use Rattle.std.specs.Prelude.{◌≡◌, ◌⊎◌, ℕ, zero, suc, List, [], ◌∷◌, length, false}
+use Rattle.std.specs.Prelude.{◌≡◌, ◌⊎◌, ℕ, zero, suc, List, [], ◌∷◌, Some, length, false}
+use Rattle.std.specs.Option.{option_copied}
 use Rattle.asn1_types.specs.declared.oids.TheConstants.{KP_LIFETIME_SIGNING, KP_TIME_STAMPING, RFC3161_COUNTER_SIGN}
 use Rattle.cms_types.specs.Pkcs7.{pkcs7}
 use Rattle.cms_types.specs.SignedData.{signed_data_elements}
@@ -12,6 +13,7 @@ use Rattle.cms_types.specs.SignerElements.{SignerElements}
 use Rattle.cms_types.specs.declared.signed_data.pkcs7.Pkcs7Certificate.{Pkcs7Certificate}
 use Rattle.der_core.specs.Optional.{members_of}
 use Rattle.der_core.specs.DerElement.{DerElement}
+use Rattle.der_core.specs.Rules.{Rule, IsFirstBroken}
 use Rattle.key_core.specs.Verifying.{Judge}
 use Rattle.x509_core.specs.KeptCertificate.{KeptCertificate}
 use Rattle.x509_core.specs.declared.error.CertError.{CertError}
@@ -19,14 +21,17 @@ use Rattle.x509_core.specs.declared.window.DateCheck.TheVariants as dates
 use Rattle.x509_core.specs.declared.window.Window.{Window}
 use Rattle.x509_types.specs.CertificateElements.{CertificateElements}
 use Rattle.x509_types.specs.Purposes.{NamesPurpose}
+use Rattle.authenticode_core.specs.AuthorityName.{IsNameAt}
 use Rattle.authenticode_core.specs.IssuerWalk.{AreOthers}
 use Rattle.authenticode_core.specs.LinkedPath.{AreLinkedAt, IsPathAsked, IsUnlinkedAt}
 use Rattle.authenticode_core.specs.Places.{StandsAt}
 use Rattle.authenticode_core.specs.Policy.{window_of}
 use Rattle.authenticode_core.specs.SignedFields.{IsAttributeOf, IsFirstSigner}
 use Rattle.authenticode_core.specs.SigningRules.{IsBagOf}
+use Rattle.authenticode_core.specs.TrustList.{IsOnList, name_rules}
 use Rattle.authenticode_core.specs.declared.accepted.Excuse.{Excuse}
 use Rattle.authenticode_core.specs.declared.accepted.Excuse.TheVariants as excuses
+use Rattle.authenticode_core.specs.declared.ctl.CertificateTrustList.{CertificateTrustList}
 use Rattle.authenticode_core.specs.declared.error.AuthenticodeError.{AuthenticodeError}
 use Rattle.authenticode_core.specs.declared.error.AuthenticodeError.TheVariants as errors
 use Rattle.authenticode_core.specs.declared.policy.Policy.{Policy}
@@ -85,6 +90,13 @@ pub record IsLinkedToken (judge : Judge) (bag : List CertificateElements) : Type
   pub others : AreOthersThan bag first.elements places
   pub linked : AreLinkedAt judge any_time bag first places
 
+-- if the policy has a list, the CA of the certificates of the bag is on it
+abbrev pub IsListedToken : Policy → List CertificateElements → Type 0
+IsListedToken policy bag =
+    (list : CertificateTrustList) → option_copied policy.list ≡ Some list
+    → (ca : DerElement) × IsNameAt bag (places_from 0 (length bag)) ca
+    × IsOnList list policy.now ca
+
 -- The first certificate of the bag isn't linked to these.
 pub record IsUnlinkedToken (judge : Judge) (bag : List CertificateElements)
     (e : CertError) : Type 0 where
@@ -94,27 +106,46 @@ pub record IsUnlinkedToken (judge : Judge) (bag : List CertificateElements)
   pub others : AreOthersThan bag first.elements places
   pub unlinked : IsUnlinkedAt judge any_time bag first places e
 
+-- ---- rules of a token's bag, by what breaks them
+
+-- the first certificate of the bag isn't linked to the others
+abbrev pub IsUnlinkedStamp : Judge → List CertificateElements → Rule AuthenticodeError
+IsUnlinkedStamp judge bag e =
+    (cause : CertError) × IsUnlinkedToken judge bag cause × (e ≡ errors.InvalidTimestampCert cause)
+
+-- the policy has a list, and the CA of the certificates of the bag isn't on it
+abbrev pub IsUnlistedStamp : Policy → List CertificateElements → Rule AuthenticodeError
+IsUnlistedStamp policy bag e =
+    (list : CertificateTrustList) × (option_copied policy.list ≡ Some list)
+    × (ca : DerElement) × IsNameAt bag (places_from 0 (length bag)) ca
+    × IsFirstBroken (name_rules list policy.now ca) e
+
+-- The rules of a token's bag, in their order.
+abbrev pub stamp_rules : Judge → Policy → List CertificateElements → List (Rule AuthenticodeError)
+stamp_rules judge policy bag = IsUnlinkedStamp judge bag ∷ IsUnlistedStamp policy bag ∷ []
+
 -- ---- excuses for the signer's certificate in a bag, which has expired
 
--- The signature has a token, some certificate of it has the extended key usage time stamping, and
--- its first certificate is linked to the others.
-pub record IsStamped (judge : Judge) (f : SignedDataElements) : Type 0 where
+-- The signature has a token, some certificate of it has the extended key usage time stamping, its
+-- first certificate is linked to the others, and if the policy has a list, its CA is on it.
+pub record IsStamped (judge : Judge) (policy : Policy) (f : SignedDataElements) : Type 0 where
   pub t : SignedDataElements
   pub has : HasToken f t
   pub bag : List CertificateElements
   pub stamping : IsForStamping t bag
   pub linked : IsLinkedToken judge bag
+  pub listed : IsListedToken policy bag
 
 -- There is this reason to excuse the expiry: the certificate doesn't have the extended key usage
 -- lifetime signing, and some certificate of the bag has time stamping; or none of the bag does, and
 -- the signature has a token with such a certificate, whose first certificate is linked to the
 -- others.
-abbrev pub HasReason : Judge → SignedDataElements → List CertificateElements → CertificateElements
-    → Excuse → Type 0
-HasReason judge f bag c excuses.None = ⊥
-HasReason judge f bag c excuses.Bag = (NamesLifetime c → ⊥) × NamesTimeStamping bag
-HasReason judge f bag c excuses.Token =
-    (NamesLifetime c → ⊥) × (NamesTimeStamping bag → ⊥) × IsStamped judge f
+abbrev pub HasReason : Judge → Policy → SignedDataElements → List CertificateElements
+    → CertificateElements → Excuse → Type 0
+HasReason judge policy f bag c excuses.None = ⊥
+HasReason judge policy f bag c excuses.Bag = (NamesLifetime c → ⊥) × NamesTimeStamping bag
+HasReason judge policy f bag c excuses.Token =
+    (NamesLifetime c → ⊥) × (NamesTimeStamping bag → ⊥) × IsStamped judge policy f
 
 -- The expiry is excused, for this reason; and if the chain is checked, the path is the issuer path,
 -- a chain above the expired certificate, each of its certificates valid under the policy; else it
@@ -122,7 +153,7 @@ HasReason judge f bag c excuses.Token =
 pub record IsExcused (judge : Judge) (policy : Policy) (f : SignedDataElements)
     (bag : List CertificateElements) (signer : KeptCertificate) (path : List ℕ)
     (excuse : Excuse) : Type 0 where
-  pub reason : HasReason judge f bag signer.elements excuse
+  pub reason : HasReason judge policy f bag signer.elements excuse
   pub path_is : IsPathAsked policy.chain judge (window_of policy) bag signer path
 
 -- the signature has no token with a certificate for time stamping
@@ -138,15 +169,14 @@ abbrev pub HasNoExcuse : SignedDataElements → List CertificateElements → Cer
 HasNoExcuse f bag c = NamesLifetime c ⊎ ((NamesTimeStamping bag → ⊥) × IsUnstamped f)
 
 -- There is a token that could excuse the expiry, some certificate of it has the extended key usage
--- time stamping, and its first certificate isn't linked to the others, for the cause in the error.
-pub record HasBadStamp (judge : Judge) (f : SignedDataElements) (bag : List CertificateElements)
-    (c : CertificateElements) (e : AuthenticodeError) : Type 0 where
+-- time stamping, and it breaks a rule, the first of which the error reports.
+pub record HasBadStamp (judge : Judge) (policy : Policy) (f : SignedDataElements)
+    (bag : List CertificateElements) (c : CertificateElements)
+    (e : AuthenticodeError) : Type 0 where
   pub mortal : NamesLifetime c → ⊥
   pub unnamed : NamesTimeStamping bag → ⊥
   pub t : SignedDataElements
   pub has : HasToken f t
   pub stamping_bag : List CertificateElements
   pub stamping : IsForStamping t stamping_bag
-  pub cause : CertError
-  pub unlinked : IsUnlinkedToken judge stamping_bag cause
-  pub told : e ≡ errors.InvalidTimestampCert cause
+  pub broken : IsFirstBroken (stamp_rules judge policy stamping_bag) e

@@ -23,12 +23,15 @@ pub mod RefusalName
 pub mod PlainForm
 pub mod PlainFields
 pub mod Asn1
--- Rules, in the order of the check: form, digest and signature, signer, path, excuse.
+-- Rules, in the order of the check: form, digest and signature, signer, path, trust list, excuse, and
+-- the signer's CA.
 pub mod FormRules
 pub mod SigningRules
 pub mod SignerRules
 pub mod LinkedPath
+pub mod TrustList
 pub mod Excuses
+pub mod ListRules
 -- What the rules read.
 pub mod SignedFields
 pub mod Names

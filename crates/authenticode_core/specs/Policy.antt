@@ -1,11 +1,11 @@
 -- What is checked of a signature file.
-use Rattle.std.specs.Prelude.{None, true, false}
+use Rattle.std.specs.Prelude.{None, [], true, false, pos}
 use Rattle.x509_core.specs.declared.validator.ChainChecks.{ChainChecks}
 use Rattle.x509_core.specs.declared.window.DateCheck.TheVariants as dates
 use Rattle.x509_core.specs.declared.window.Window.{Window}
 use Rattle.authenticode_core.specs.declared.policy.Policy.{Policy}
 
--- all checks, without a digest or a date
+-- all checks, without a digest, a date, a list or names
 abbrev pub first_policy : Policy
 first_policy = record {
   basic = true;
@@ -15,6 +15,11 @@ first_policy = record {
   not_after = true;
   chain = true;
   date = dates.Absent;
+  against_list = true;
+  list = None;
+  now = pos 0;
+  exclude = true;
+  excluded = [];
 }
 
 -- what is checked of the validity of a certificate

@@ -105,8 +105,8 @@ pub record IsUnexcused (policy : Policy) (f : SignedDataElements)
   pub outside : IsOutside (window_of policy) signer cause
   pub told : e ≡ errors.CertError cause
 
--- The signer's certificate has expired, and the first certificate of the token that would excuse it
--- isn't linked to the others.
+-- The signer's certificate has expired, and the token that would excuse it has a first certificate
+-- that isn't linked to the others, or a CA that isn't on the list.
 pub record IsBadlyStamped (judge : Judge) (policy : Policy) (f : SignedDataElements)
     (e : AuthenticodeError) : Type 0 where
   pub bag : List CertificateElements
@@ -114,14 +114,14 @@ pub record IsBadlyStamped (judge : Judge) (policy : Policy) (f : SignedDataEleme
   pub signer : KeptCertificate
   pub is : IsKeptSigner f bag place signer
   pub expired : IsExpired (window_of policy) signer.elements
-  pub stamp : HasBadStamp judge f bag signer.elements e
+  pub stamp : HasBadStamp judge policy f bag signer.elements e
 
 -- the certificate is valid; or it has expired, and there is this reason to excuse it
 abbrev pub IsValidOrExcusable : Judge → Policy → SignedDataElements → List CertificateElements
     → CertificateElements → Excuse → Type 0
 IsValidOrExcusable judge policy f bag c excuses.None = IsWithinWindow (window_of policy) c
 IsValidOrExcusable judge policy f bag c excuse =
-    IsExpired (window_of policy) c × HasReason judge f bag c excuse
+    IsExpired (window_of policy) c × HasReason judge policy f bag c excuse
 
 -- The signer's certificate is valid, or there is a reason to excuse its expiry; the chain is
 -- checked, and a certificate of the issuer path isn't linked.

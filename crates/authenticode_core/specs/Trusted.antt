@@ -6,6 +6,7 @@ use Rattle.key_core.specs.Verifying.{Judge}
 use Rattle.wincert_core.specs.Refusal.{contents_in}
 use Rattle.authenticode_core.specs.Basic.{HasSignedData, IsRefusedPart, IsUnreadSignature, VouchesFor}
 use Rattle.authenticode_core.specs.FormRules.{form_rules}
+use Rattle.authenticode_core.specs.ListRules.{IsSignerListed, ca_rules}
 use Rattle.authenticode_core.specs.SignerRules.{IsSignerVouched, signer_rules}
 use Rattle.authenticode_core.specs.declared.accepted.Accepted.{Accepted}
 use Rattle.authenticode_core.specs.declared.accepted.Excuse.TheVariants as excuses
@@ -30,10 +31,12 @@ pub record IsTrusted (judge : Judge) (policy : Policy) (f : SignedDataElements)
     (a : Accepted) : Type 0 where
   pub basic : IsTrue policy.basic → IsBasicallyVouched judge policy.file_hash f a
   pub signing : IsTrue policy.signing → IsSignerVouched judge policy f a
+  pub listed : IsTrue policy.against_list → IsSignerListed policy f a
   -- if the signer's certificate isn't checked, no path and no excuse are reported, and its index
-  -- only by basic validation
+  -- only by basic validation, or if its CA is looked up on a list
   pub pathless : policy.signing ≡ false → (a.path ≡ []) × (a.excuse ≡ excuses.None)
-  pub placeless : policy.basic ≡ false → policy.signing ≡ false → a.signer ≡ None
+  pub placeless : policy.basic ≡ false → policy.signing ≡ false → policy.against_list ≡ false
+      → a.signer ≡ None
 
 -- ---- rules, in order
 
@@ -60,11 +63,13 @@ abbrev pub asked : Bool → List (Rule AuthenticodeError) → List (Rule Authent
 asked true rules = rules
 asked false rules = []
 
--- The rules of a policy: those of basic validation, then those of the signer's certificate.
+-- The rules of a policy: those of basic validation, then those of the signer's certificate, then
+-- those of its CA.
 abbrev pub policy_rules : Judge → Policy → SignedDataElements → List (Rule AuthenticodeError)
 policy_rules judge policy f =
     asked policy.basic (basic_rules judge f policy.file_hash)
     ++ asked policy.signing (signer_rules judge policy f)
+    ++ asked policy.against_list (ca_rules policy f)
 
 -- ---- results
 

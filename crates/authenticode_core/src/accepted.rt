@@ -1,6 +1,7 @@
 //! The result of checking a signature.
 
 ghost use Rattle.std.specs.Prelude.{◌≡◌, ◌++◌, ◌∷◌, [], IfOk, OnOk, OnErr};
+ghost use Rattle.authenticode_core.specs.Inside.PolicySteps.{at_place};
 
 use std::alloc::{AllocError, Global};
 use std::marker::Model;
@@ -81,6 +82,22 @@ pub struct Accepted {
 }
 
 impl Accepted {
+    /// The same with this index of the signer's certificate.
+    pub(crate) fn at(self, place: usize) -> Accepted
+        ensures { result ≡ at_place self place }
+    {
+        let Accepted {
+            signer: _signer,
+            path,
+            excuse,
+        } = self;
+        Accepted {
+            signer: Some(place),
+            path,
+            excuse,
+        }
+    }
+
     /// A copy of the value.
     pub fn try_clone(&self, alloc: Global) -> Result<Accepted, AllocError>
         ensures { IfOk result (λ copy. copy ≡ self.now) }

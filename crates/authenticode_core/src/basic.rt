@@ -25,18 +25,18 @@ use std::alloc::Global;
 pub(crate) fn expect_basic<S: Scheme>(
     alloc: Global,
     signed_data: &SignedView<'_>,
-    policy: &Policy,
+    policy: &Policy<'_>,
     scheme: &S,
 ) -> Result<usize, AuthenticodeError>
     requires { AreSpelled (data_elements signed_data.now) }
     ensures answer { MatchResult result
-        (IsVouchedAt (S.judge scheme.now) policy.now.file_hash (data_elements signed_data.now))
+        (IsVouchedAt (S.judge scheme.now) policy.entry.now.file_hash (data_elements signed_data.now))
         (RefusesAuthenticodeBy (basic_rules (S.judge scheme.now) (data_elements signed_data.now)
-        policy.now.file_hash)) }
+        policy.entry.now.file_hash)) }
     // A refusal of the form comes however much memory there is, and so does that of a missing
     // digest.
     ensures shape { (e : AuthenticodeError)
-        → IsFirstBroken (shape_rules (data_elements signed_data.now) policy.now.file_hash) e
+        → IsFirstBroken (shape_rules (data_elements signed_data.now) policy.entry.now.file_hash) e
         → result ≡ Err e }
 {
     let form = expect_form(signed_data)?;

@@ -3,11 +3,13 @@
 ghost use Rattle.std.specs.Prelude.{◌≡◌, IfOk, string_bytes, Some};
 ghost use Rattle.std.specs.Fmt.{WritesOnOk};
 ghost use Rattle.authenticode_core.specs.ErrorText.{check_error_text, content_error_text, file_mismatch_text, mismatch_text, unnamed_text};
-ghost use Rattle.authenticode_core.specs.ContentRefusal.{of_certificates, of_char_set, of_der, of_signatures, told_of_content, told_of_header};
+ghost use Rattle.authenticode_core.specs.ContentRefusal.{of_certificates, of_char_set, of_ctl, of_der, of_signatures, told_of_content, told_of_header};
 ghost use Rattle.authenticode_core.specs.RefusalName.{content_refusal_name, header_refusal_name, refusal_name, variant_name};
+ghost use Rattle.authenticode_core.specs.TrustList.{of_listing};
 ghost use Rattle.authenticode_core.specs.declared.error.CheckError.TheVariants.{Memory};
 ghost use Rattle.authenticode_core.specs.declared.error.AuthenticodeError.TheVariants as contents;
 
+use crate::ctl_error::CtlError;
 use crate::timestamp_error::TimestampError;
 use asn1_types::{CharSetError, IntegerAsn1};
 use der_core::{DerError, Octets, write_hexadecimal};
@@ -17,6 +19,7 @@ use sig_core::{UnsupportedAlgorithmError, UnsupportedHashAlgorithmError};
 use std::alloc::{AllocError, AllocFailed, Global};
 use std::fmt::{self, Display};
 use thiserror::Error;
+use trust_list::ListingError;
 use wincert_core::WinCertificateError;
 use x509_core::CertError;
 
@@ -79,6 +82,23 @@ pub enum AuthenticodeError {
     /// The signer's certificate has expired, and the first certificate of the token that would
     /// excuse it isn't linked to the others. Never wraps `Memory`.
     InvalidTimestampCert(CertError),
+    /// The trust list isn't one, or its entry for the CA is malformed. Never with want of memory.
+    CtlError(CtlError),
+    /// The CA of the signer, or that of the token that would excuse its expiry, isn't on the trust
+    /// list.
+    CAIsNotTrusted,
+    /// The trust list has revoked it.
+    CaCertificateRevoked,
+    /// The trust list had it until then. Both in whole seconds since 1601-01-01, UTC.
+    CaCertificateExpired {
+        not_after: i64,
+        now: i64,
+    },
+    /// The trust list has it from then on. Both in whole seconds since 1601-01-01, UTC.
+    CaCertificateNotYetValid {
+        not_before: i64,
+        now: i64,
+    },
     /// The name of a program has a character past U+FFFF.
     ProgramNameCharSet,
     /// No certificate could be the signer's.
@@ -128,6 +148,17 @@ impl Drop for AuthenticodeError {
             } => {}
             AuthenticodeError::NoEKUCodeSigning => {}
             AuthenticodeError::InvalidTimestampCert(_held) => {}
+            AuthenticodeError::CtlError(_held) => {}
+            AuthenticodeError::CAIsNotTrusted => {}
+            AuthenticodeError::CaCertificateRevoked => {}
+            AuthenticodeError::CaCertificateExpired {
+                not_after: _not_after,
+                now: _now,
+            } => {}
+            AuthenticodeError::CaCertificateNotYetValid {
+                not_before: _not_before,
+                now: _now,
+            } => {}
             AuthenticodeError::ProgramNameCharSet => {}
             AuthenticodeError::NoCertificates => {}
             AuthenticodeError::Asn1DerError(_held) => {}
@@ -138,12 +169,13 @@ impl Drop for AuthenticodeError {
 }
 
 impl AuthenticodeError {
-    /// The name of the variant, or of the certificate error that it wraps.
+    /// The name of the variant, or of the certificate or trust list error that it wraps.
     fn name(&self, alloc: Global) -> Result<String, AllocError>
         ensures { IfOk result (λ name. string_bytes name ≡ content_refusal_name self.now) }
     {
         match self {
             AuthenticodeError::CertError(error) => error.name(alloc),
+            AuthenticodeError::CtlError(error) => String::from_str(alloc, error.word()),
             _ => String::from_str(alloc, self.word()),
         }
     }
@@ -175,6 +207,11 @@ impl AuthenticodeError {
             AuthenticodeError::NoEKUCodeSigning => "NoEKUCodeSigning",
             AuthenticodeError::MissingExpectedFileHash => "MissingExpectedFileHash",
             AuthenticodeError::InvalidTimestampCert(_) => "InvalidTimestampCert",
+            AuthenticodeError::CtlError(_) => "CtlError",
+            AuthenticodeError::CAIsNotTrusted => "CAIsNotTrusted",
+            AuthenticodeError::CaCertificateRevoked => "CaCertificateRevoked",
+            AuthenticodeError::CaCertificateExpired { .. } => "CaCertificateExpired",
+            AuthenticodeError::CaCertificateNotYetValid { .. } => "CaCertificateNotYetValid",
             AuthenticodeError::ProgramNameCharSet => "ProgramNameCharSet",
             AuthenticodeError::NoCertificates => "NoCertificates",
             AuthenticodeError::Asn1DerError(_) => "Asn1DerError",
@@ -242,6 +279,19 @@ impl fmt::Display for AuthenticodeError {
             AuthenticodeError::InvalidTimestampCert(error) => {
                 write!(f, "certificate of the time stamp: {error}")
             }
+            AuthenticodeError::CtlError(error) => error.fmt(f),
+            AuthenticodeError::CAIsNotTrusted => { write!(f, "the CA is not on the trust list") }
+            AuthenticodeError::CaCertificateRevoked => {
+                write!(f, "the trust list has revoked the CA")
+            }
+            AuthenticodeError::CaCertificateExpired { not_after, now } => write!(
+                f,
+                "the CA was on the trust list until {not_after}, and it is {now}"
+            ),
+            AuthenticodeError::CaCertificateNotYetValid { not_before, now } => write!(
+                f,
+                "the CA is on the trust list from {not_before}, and it is {now}"
+            ),
             AuthenticodeError::ProgramNameCharSet => {
                 write!(f, "the name of the program has a character past U+FFFF")
             }
@@ -428,6 +478,36 @@ impl From<CharSetError> for AuthenticodeError {
         match error {
             CharSetError::Memory => AuthenticodeError::Memory,
             CharSetError::CharSet => AuthenticodeError::ProgramNameCharSet,
+        }
+    }
+}
+
+/// Want of memory is told as such.
+impl From<CtlError> for AuthenticodeError {
+    ghost from_gives = { λ error e. e ≡ of_ctl error };
+
+    fn from(error: CtlError) -> AuthenticodeError {
+        match error {
+            CtlError::Memory => AuthenticodeError::Memory,
+            error => AuthenticodeError::CtlError(error),
+        }
+    }
+}
+
+impl From<ListingError> for AuthenticodeError {
+    ghost from_gives = { λ error e. e ≡ of_listing error };
+
+    fn from(error: ListingError) -> AuthenticodeError {
+        match error {
+            ListingError::NotListed => AuthenticodeError::CAIsNotTrusted,
+            ListingError::MalformedEntry => AuthenticodeError::CtlError(CtlError::MalformedEntry),
+            ListingError::Revoked => AuthenticodeError::CaCertificateRevoked,
+            ListingError::Expired { not_after, now } => {
+                AuthenticodeError::CaCertificateExpired { not_after, now }
+            }
+            ListingError::NotYetValid { not_before, now } => {
+                AuthenticodeError::CaCertificateNotYetValid { not_before, now }
+            }
         }
     }
 }

@@ -5,8 +5,8 @@ ghost use Rattle.cms_types.specs.SignedView.{data_elements};
 ghost use Rattle.der_core.specs.Rules.{OrMemory};
 ghost use Rattle.x509_types.specs.CertificateElements.{CertificateElements};
 ghost use Rattle.x509_types.specs.CertificateView.{view_elements};
-ghost use Rattle.authenticode_core.specs.Excuses.{HasBadStamp, HasNoExcuse, HasReason, IsForStamping, IsLinkedToken, NamesTimeStamping};
-ghost use Rattle.authenticode_core.specs.Inside.ExcuseSteps.{LeadsStamping, TellsUnlinked};
+ghost use Rattle.authenticode_core.specs.Excuses.{HasBadStamp, HasNoExcuse, HasReason, IsForStamping, IsLinkedToken, IsListedToken, IsUnlinkedStamp, IsUnlistedStamp, NamesTimeStamping};
+ghost use Rattle.authenticode_core.specs.Inside.ExcuseSteps.{LeadsStamping};
 ghost use Rattle.authenticode_core.specs.Places.{StandsAt};
 ghost use Rattle.authenticode_core.specs.SigningRules.{IsBagOf};
 ghost use Rattle.authenticode_core.specs.declared.error.AuthenticodeError.TheVariants as errors;
@@ -14,9 +14,13 @@ ghost use Rattle.authenticode_core.specs.declared.error.AuthenticodeError.TheVar
 pub(crate) mod token;
 
 use crate::accepted::Excuse;
+use crate::authority::authority_name;
 use crate::error::AuthenticodeError;
 use crate::excuse::token::token_of;
+use crate::listing::expect_on_list;
+use crate::path::others::Source;
 use crate::path::{expect_linked_token, kept};
+use crate::policy::Policy;
 use crate::signer::bag::BagCertificate;
 use crate::signer::certificates::certificate_bag;
 use crate::signer::wanted::Wanted;
@@ -29,21 +33,22 @@ use x509_types::CertView;
 
 /// The reason to excuse the expiry of the signer's certificate, if there is one. It waives the
 /// not-after date of that certificate alone; the issuer path isn't checked here. Only linking the
-/// certificates of a token, which comes last, allocates.
+/// certificates of a token allocates; if the policy has a list, their CA is looked up on it last.
 pub(crate) fn excuse_of<S: Scheme>(
     alloc: Global,
     signed_data: &SignedView<'_>,
     signer: &CertView<'_>,
+    policy: &Policy<'_>,
     scheme: &S,
 ) -> Result<Option<Excuse>, AuthenticodeError>
     ensures { (bag : List CertificateElements) → IsBagOf (data_elements signed_data.now) bag
         → MatchResult result
         (λ found. MatchOption found
         (HasNoExcuse (data_elements signed_data.now) bag (view_elements signer.now))
-        (HasReason (S.judge scheme.now) (data_elements signed_data.now) bag
+        (HasReason (S.judge scheme.now) policy.entry.now (data_elements signed_data.now) bag
         (view_elements signer.now)))
-        (OrMemory errors.Memory (HasBadStamp (S.judge scheme.now) (data_elements signed_data.now)
-        bag (view_elements signer.now))) }
+        (OrMemory errors.Memory (HasBadStamp (S.judge scheme.now) policy.entry.now
+        (data_elements signed_data.now) bag (view_elements signer.now))) }
 {
     if signer.names(KP_LIFETIME_SIGNING) {
         return Ok(None);
@@ -58,6 +63,7 @@ pub(crate) fn excuse_of<S: Scheme>(
         return Ok(None);
     };
     expect_linked(alloc, &token, &first, scheme)?;
+    expect_listed_token(&token, policy)?;
     Ok(Some(Excuse::Token))
 }
 
@@ -96,7 +102,7 @@ fn expect_linked<S: Scheme>(
     ensures { (bag : List CertificateElements) → IsBagOf (data_elements token.now) bag
         → StandsAt bag 0 (view_elements first.now.certificate)
         → MatchResult result (λ _. IsLinkedToken (S.judge scheme.now) bag)
-        (OrMemory errors.Memory (TellsUnlinked (S.judge scheme.now) bag)) }
+        (OrMemory errors.Memory (IsUnlinkedStamp (S.judge scheme.now) bag)) }
 {
     let first = kept(alloc, first)?;
     match expect_linked_token(alloc, token, &first, scheme) {
@@ -106,4 +112,19 @@ fn expect_linked<S: Scheme>(
             _ => Err(AuthenticodeError::InvalidTimestampCert(cause)),
         },
     }
+}
+
+/// Where the policy has a list, the CA of the certificates of a token is on it. It takes no memory.
+fn expect_listed_token(token: &SignedView<'_>, policy: &Policy<'_>) -> Result<(), AuthenticodeError>
+    requires { (bag : List CertificateElements) × IsForStamping (data_elements token.now) bag }
+    ensures { (bag : List CertificateElements) → IsBagOf (data_elements token.now) bag
+        → MatchResult result (λ _. IsListedToken policy.entry.now bag) (IsUnlistedStamp policy.entry.now bag) }
+{
+    let Some(list) = policy.list else {
+        return Ok(());
+    };
+    let Some(name) = authority_name(Source::Bag(certificate_bag(token))) else {
+        unreachable!();
+    };
+    expect_on_list(list, name, policy.now)
 }

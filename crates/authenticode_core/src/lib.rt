@@ -2,17 +2,20 @@
 //! indices the signer's certificate and those of its issuers are.
 //!
 //! The modules follow the steps of the check: `value`, `form`, `digest`, `signature`, `signer`,
-//! `path`, `excuse`. `steps` has their order, `basic` the order in basic validation.
+//! `path`, `excuse`, `listing`. `steps` has their order, `basic` the order in basic validation.
 #![tactic(auto)]
 
 mod accepted;
 mod authority;
 mod basic;
+mod ctl;
+mod ctl_error;
 mod digest;
 mod error;
 mod excuse;
 mod form;
 mod laws;
+mod listing;
 mod path;
 mod pkcs7_error;
 mod policy;
@@ -23,6 +26,8 @@ mod timestamp_error;
 mod value;
 
 pub use accepted::{Accepted, Excuse, Places};
+pub use ctl::CertificateTrustList;
+pub use ctl_error::CtlError;
 pub use error::{AuthenticodeError, CheckError};
 pub use laws::{one_acceptance, one_bag, one_issuer_walk, one_signed_data, plain_form_is_judged};
 pub use path::issuer_walk::IssuerWalk;

@@ -3,13 +3,15 @@
 ghost use Rattle.std.specs.Prelude.{◌≡◌};
 ghost use Rattle.authenticode_core.specs.Policy.{policy_checks, first_policy};
 
+use crate::ctl::CertificateTrustList;
 use der_core::Octets;
+use names_core::NameList;
 use std::alloc::Global;
 use x509_core::{ChainChecks, DateCheck, Window};
 
 /// What is checked of a signature file.
 #[derive(Debug, Drop)]
-pub struct Policy {
+pub struct Policy<'a> {
     /// Whether basic validation is checked: the form of the signed data, the digest of the file and
     /// the signature.
     pub basic: bool,
@@ -27,11 +29,22 @@ pub struct Policy {
     pub chain: bool,
     /// The date or interval for which certificates must be valid.
     pub date: DateCheck,
+    /// Whether the CA of the signer has to be on the trust list, where one is given, or excluded.
+    pub against_list: bool,
+    /// The trust list. The CA of a token that excuses an expiry has to be on it whatever
+    /// `against_list` says.
+    pub list: Option<&'a CertificateTrustList>,
+    /// The moment at which it has to be on the list, in whole seconds since 1601-01-01, UTC.
+    pub now: i64,
+    /// Whether the CA of the signer may be an excluded one.
+    pub exclude: bool,
+    /// The names of CAs of which it isn't asked that they are on the list.
+    pub excluded: NameList,
 }
 
-impl Policy {
-    /// All checks, without a digest or a date. It doesn't allocate.
-    pub fn new(_alloc: Global) -> Policy
+impl<'a> Policy<'a> {
+    /// All checks, without a digest, a date, a list or names. It doesn't allocate.
+    pub fn new(alloc: Global) -> Policy<'a>
         ensures { result ≡ first_policy }
     {
         Policy {
@@ -42,12 +55,17 @@ impl Policy {
             not_after: true,
             chain: true,
             date: DateCheck::Absent,
+            against_list: true,
+            list: None,
+            now: 0,
+            exclude: true,
+            excluded: NameList::new(alloc),
         }
     }
 
     /// What is checked of the signer's certificate and those of its issuers. No root is required.
     pub(crate) fn checks(&self) -> ChainChecks
-        ensures { result ≡ policy_checks self.now }
+        ensures { result ≡ policy_checks self.entry.now }
     {
         ChainChecks {
             window: Window {

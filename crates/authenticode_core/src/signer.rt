@@ -49,15 +49,15 @@ pub(crate) fn expect_signer<S: Scheme>(
     alloc: Global,
     signed_data: &SignedView<'_>,
     known: Option<usize>,
-    policy: &Policy,
+    policy: &Policy<'_>,
     scheme: &S,
 ) -> Result<Accepted, AuthenticodeError>
     requires spelled { AreSpelled (data_elements signed_data.now) }
     requires known { IfSome known (HasSignerAt (data_elements signed_data.now)) }
     ensures { MatchResult result
-        (IsSignerVouched (S.judge scheme.now) policy.now (data_elements signed_data.now))
+        (IsSignerVouched (S.judge scheme.now) policy.entry.now (data_elements signed_data.now))
         (RefusesAuthenticodeBy
-        (signer_rules (S.judge scheme.now) policy.now (data_elements signed_data.now))) }
+        (signer_rules (S.judge scheme.now) policy.entry.now (data_elements signed_data.now))) }
 {
     let first = expect_first(signed_data)?;
     let named = expect_named(alloc, signed_data, &first, known)?;
@@ -68,7 +68,9 @@ pub(crate) fn expect_signer<S: Scheme>(
 }
 
 /// The first signer.
-fn expect_first<'a>(signed_data: &SignedView<'a>) -> Result<SignerView<'a>, AuthenticodeError>
+pub(crate) fn expect_first<'a>(
+    signed_data: &SignedView<'a>,
+) -> Result<SignerView<'a>, AuthenticodeError>
     requires { AreSpelled (data_elements signed_data.now) }
     ensures { MatchResult result
         (λ signer. IsFirstSigner (data_elements signed_data.now) (signer_elements_at signer))
@@ -82,7 +84,7 @@ fn expect_first<'a>(signed_data: &SignedView<'a>) -> Result<SignerView<'a>, Auth
 
 /// The certificate with the issuer and the serial number of the first signer. If its index is
 /// known, the bag isn't read to its end again.
-fn expect_named<'a>(
+pub(crate) fn expect_named<'a>(
     alloc: Global,
     signed_data: &SignedView<'a>,
     signer: &SignerView<'a>,
@@ -118,7 +120,7 @@ fn expect_standing<S: Scheme>(
     signed_data: &SignedView<'_>,
     named: &BagCertificate<'_>,
     signer: Cert,
-    policy: &Policy,
+    policy: &Policy<'_>,
     scheme: &S,
 ) -> Result<Accepted, AuthenticodeError>
     requires { signer.elements ≡ view_elements named.now.certificate }
@@ -126,10 +128,10 @@ fn expect_standing<S: Scheme>(
         → IsKeptSigner (data_elements signed_data.now) bag named.now.place signer
         → MatchResult result
         (λ a. (a.signer ≡ Some named.now.place)
-        × IsStanding (S.judge scheme.now) policy.now (data_elements signed_data.now) bag
+        × IsStanding (S.judge scheme.now) policy.entry.now (data_elements signed_data.now) bag
         signer a.path a.excuse)
         (RefusesAuthenticodeBy
-        (standing_rules (S.judge scheme.now) policy.now (data_elements signed_data.now))) }
+        (standing_rules (S.judge scheme.now) policy.entry.now (data_elements signed_data.now))) }
 {
     let excuse = expect_validity(
         alloc,
@@ -154,22 +156,22 @@ fn expect_validity<S: Scheme>(
     signed_data: &SignedView<'_>,
     view: &CertView<'_>,
     signer: &Cert,
-    policy: &Policy,
+    policy: &Policy<'_>,
     scheme: &S,
 ) -> Result<Excuse, AuthenticodeError>
     requires { signer.now.elements ≡ view_elements view.now }
     ensures { (bag : List CertificateElements) (place : ℕ)
         → IsKeptSigner (data_elements signed_data.now) bag place signer.now
         → MatchResult result
-        (IsValidOrExcusable (S.judge scheme.now) policy.now (data_elements signed_data.now) bag
+        (IsValidOrExcusable (S.judge scheme.now) policy.entry.now (data_elements signed_data.now) bag
         signer.now.elements)
         (RefusesAuthenticodeBy
-        (validity_rules (S.judge scheme.now) policy.now (data_elements signed_data.now))) }
+        (validity_rules (S.judge scheme.now) policy.entry.now (data_elements signed_data.now))) }
 {
     let checks = policy.checks();
     match signer.expect_valid(alloc, &checks.window) {
         Ok(()) => Ok(Excuse::None),
-        Err(error) => expect_excuse(alloc, signed_data, view, error, scheme),
+        Err(error) => expect_excuse(alloc, signed_data, view, error, policy, scheme),
     }
 }
 
@@ -178,14 +180,14 @@ fn asked_path<S: Scheme>(
     alloc: Global,
     signed_data: &SignedView<'_>,
     signer: Cert,
-    policy: &Policy,
+    policy: &Policy<'_>,
     scheme: &S,
 ) -> Result<Places, CertError>
     ensures { (bag : List CertificateElements) → IsBagOf (data_elements signed_data.now) bag
         → MatchResult result
-        (IsPathAsked policy.now.chain (S.judge scheme.now) (window_of policy.now) bag signer)
-        (OrMemory cert_errors.Memory (λ e. IsTrue policy.now.chain
-        × IsUnlinkedPath (S.judge scheme.now) (window_of policy.now) bag signer e)) }
+        (IsPathAsked policy.entry.now.chain (S.judge scheme.now) (window_of policy.entry.now) bag signer)
+        (OrMemory cert_errors.Memory (λ e. IsTrue policy.entry.now.chain
+        × IsUnlinkedPath (S.judge scheme.now) (window_of policy.entry.now) bag signer e)) }
 {
     if !policy.chain {
         return Ok(Places::new(alloc));
@@ -201,23 +203,23 @@ fn expect_excuse<S: Scheme>(
     signed_data: &SignedView<'_>,
     signer: &CertView<'_>,
     error: CertError,
+    policy: &Policy<'_>,
     scheme: &S,
 ) -> Result<Excuse, AuthenticodeError>
-    ensures { (policy : Policy) (bag : List CertificateElements) (place : ℕ)
-        (signer' : KeptCertificate)
+    ensures { (bag : List CertificateElements) (place : ℕ) (signer' : KeptCertificate)
         → IsKeptSigner (data_elements signed_data.now) bag place signer'
         → signer'.elements ≡ view_elements signer.now
-        → Breaks (IsOutside (window_of policy) signer') error
+        → Breaks (IsOutside (window_of policy.entry.now) signer') error
         → MatchResult result
-        (IsValidOrExcusable (S.judge scheme.now) policy (data_elements signed_data.now) bag
+        (IsValidOrExcusable (S.judge scheme.now) policy.entry.now (data_elements signed_data.now) bag
         signer'.elements)
         (RefusesAuthenticodeBy
-        (validity_rules (S.judge scheme.now) policy (data_elements signed_data.now))) }
+        (validity_rules (S.judge scheme.now) policy.entry.now (data_elements signed_data.now))) }
 {
     if !tells_expiry(&error) {
         return Err(AuthenticodeError::from(error));
     }
-    match excuse_of(alloc, signed_data, signer, scheme)? {
+    match excuse_of(alloc, signed_data, signer, policy, scheme)? {
         Some(excuse) => Ok(excuse),
         None => Err(AuthenticodeError::from(error)),
     }

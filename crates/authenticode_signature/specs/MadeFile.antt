@@ -1,5 +1,6 @@
 -- A signature file as this crate makes it.
-use Rattle.std.specs.Prelude.{◌≡◌, ◌≢◌, ⊤, ℕ, List, [], ◌∷◌, Option, Some, Result, Ok, IfOk, true, false}
+use Rattle.std.specs.Option.{option_copied}
+use Rattle.std.specs.Prelude.{◌≡◌, ◌≢◌, ⊤, ℕ, List, [], ◌∷◌, Option, Some, None, Result, Ok, IfOk, true, false}
 use Rattle.cms_types.specs.Pkcs7.{pkcs7}
 use Rattle.cms_types.specs.SignedData.{signed_data_elements}
 use Rattle.cms_types.specs.SignedDataElements.{SignedDataElements}
@@ -97,11 +98,13 @@ pub record IsMadeWith (pair : Pair) (key : PrivateKey) (first : CertificateEleme
 
 -- ---- its check
 
--- The policy checks basic validation alone, with this digest of the file.
+-- The policy checks basic validation alone, with this digest of the file: no validity, and no trust
+-- list.
 pub record IsBasicAlone (policy : Policy) (file_hash : List ℕ) : Type 0 where
   pub basic : policy.basic ≡ true
   pub given : policy.file_hash ≡ Some file_hash
   pub signing : policy.signing ≡ false
+  pub listless : option_copied policy.list ≡ None
 
 -- the first certificate is the signer's, without a path or an excuse
 abbrev pub by_the_first : Accepted

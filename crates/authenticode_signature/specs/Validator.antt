@@ -1,5 +1,6 @@
 -- What is checked of an owned signature, as configured, and the result.
-use Rattle.std.specs.Prelude.{◌≡◌, Bool, ℕ, List, ◌∷◌, Some, None, Result, MatchResult, true, false}
+use Rattle.std.specs.Borrow.{Bor}
+use Rattle.std.specs.Prelude.{◌≡◌, Bool, ℕ, ℤ, List, [], ◌∷◌, ◌++◌, Some, None, Result, MatchResult, true, false}
 use Rattle.cms_types.specs.SignedDataElements.{SignedDataElements}
 use Rattle.der_core.specs.DerElement.{DerElement}
 use Rattle.der_core.specs.Encoding.{IsDer}
@@ -7,10 +8,12 @@ use Rattle.der_core.specs.Rules.{Rule}
 use Rattle.der_core.specs.declared.error.DerError.{DerError}
 use Rattle.key_core.specs.KeyRefusals.{CantBeWritten}
 use Rattle.key_core.specs.Verifying.{Judge}
+use Rattle.names_core.specs.declared.name.DirectoryName.{DirectoryName}
 use Rattle.x509_core.specs.declared.window.DateCheck.{DateCheck}
 use Rattle.authenticode_core.specs.SigningRules.{RefusesAuthenticodeBy}
 use Rattle.authenticode_core.specs.Trusted.{IsTrusted, policy_rules}
 use Rattle.authenticode_core.specs.declared.accepted.Accepted.{Accepted}
+use Rattle.authenticode_core.specs.declared.ctl.CertificateTrustList.{CertificateTrustList}
 use Rattle.authenticode_core.specs.declared.error.AuthenticodeError.{AuthenticodeError}
 use Rattle.authenticode_core.specs.declared.error.AuthenticodeError.TheVariants as errors
 use Rattle.authenticode_core.specs.declared.policy.Policy.{Policy}
@@ -42,6 +45,23 @@ with_basic file_hash policy = record policy { basic = true; file_hash = Some fil
 -- it isn't, and there is no digest
 abbrev pub without_basic : Policy → Policy
 without_basic policy = record policy { basic = false; file_hash = None }
+
+-- the policy, with or without that the signer's CA is on the trust list, or excluded
+abbrev pub with_list_check : Bool → Policy → Policy
+with_list_check asked policy = record policy { against_list = asked }
+
+-- the policy with this trust list, at this time
+abbrev pub with_list : Bor CertificateTrustList → ℤ → Policy → Policy
+with_list list now policy = record policy { list = Some list; now = now }
+
+-- these names are excluded too
+abbrev pub with_excluded : List DirectoryName → Policy → Policy
+with_excluded names policy =
+    record policy { exclude = true; excluded = policy.excluded ++ names }
+
+-- no names are
+abbrev pub without_excluded : Policy → Policy
+without_excluded policy = record policy { exclude = false; excluded = [] }
 
 -- ---- results
 

@@ -20,7 +20,7 @@ mod timestamper;
 mod token_timestamper;
 mod validator;
 
-pub use authenticode_core::Pkcs7Error;
+pub use authenticode_core::{CertificateTrustList, CtlError, Pkcs7Error};
 pub use builder::AuthenticodeSignatureBuilder;
 pub use builder_error::AuthenticodeSignatureBuilderError;
 pub use certificates::SignatureCertificatesIterator;

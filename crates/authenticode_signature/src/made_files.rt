@@ -54,21 +54,21 @@ pub fn decode_signature(alloc: Global, octets: &[u8]) -> Result<AuthenticodeSign
 pub fn check_made<S: Scheme>(
     alloc: Global,
     octets: &[u8],
-    policy: &Policy,
+    policy: &Policy<'_>,
     scheme: &S,
 ) -> Result<Accepted, CheckError>
-    ensures answer { IsAnswer (S.judge scheme.now) policy.now octets.now result }
+    ensures answer { IsAnswer (S.judge scheme.now) policy.entry.now octets.now result }
     // A refusal of the header, of the certificate's kind or of the form comes even when memory runs
     // out.
-    ensures refused { (e : CheckError) → RefusesForm policy.now octets.now e → result ≡ Err e }
+    ensures refused { (e : CheckError) → RefusesForm policy.entry.now octets.now e → result ≡ Err e }
     // A file that was made is checked with its certificates, whatever the policy checks.
     ensures over { (first : CertificateElements) (others : List CertificateElements)
         (file_hash : List ℕ)
         → IsMadeSignature (S.judge scheme.now) first others octets.now file_hash
-        → IsCheckedBy (S.judge scheme.now) policy.now (first ∷ others) octets.now file_hash result }
+        → IsCheckedBy (S.judge scheme.now) policy.entry.now (first ∷ others) octets.now file_hash result }
     // A file that was made is accepted.
     ensures made { (first : CertificateElements) (others : List CertificateElements)
-        (file_hash : List ℕ) → IsBasicAlone policy.now file_hash
+        (file_hash : List ℕ) → IsBasicAlone policy.entry.now file_hash
         → IsMadeSignature (S.judge scheme.now) first others octets.now file_hash
         → MatchResult result (λ a. a ≡ by_the_first) (λ e. e ≡ Memory) }
 {

@@ -1,6 +1,6 @@
 //! Validating owned signatures.
 
-ghost use Rattle.std.specs.Prelude.{◌≡◌, true, false, Err, Result, MatchResult};
+ghost use Rattle.std.specs.Prelude.{◌≡◌, ◌++◌, true, false, Err, IfOk, OnErr, OnOk, Result, MatchResult};
 ghost use Rattle.der_core.specs.Kept.{IsKept};
 ghost use Rattle.der_core.specs.Rules.{AreOneUnlessMemory, IsFirstBroken};
 ghost use Rattle.x509_core.specs.declared.window.DateCheck.TheVariants as dates;
@@ -10,27 +10,29 @@ ghost use Rattle.authenticode_core.specs.Trusted.{IsTrusted, asked, policy_rules
 ghost use Rattle.authenticode_core.specs.declared.accepted.Accepted.{Accepted};
 ghost use Rattle.authenticode_core.specs.declared.error.AuthenticodeError.{AuthenticodeError};
 ghost use Rattle.authenticode_signature.specs.Pkcs7.{fields_of, written};
-ghost use Rattle.authenticode_signature.specs.Validator.{IsVerdict, at_dates, with_basic, policy_with_chain, policy_with_not_after, policy_with_not_before, with_signing, without_basic};
+ghost use Rattle.authenticode_signature.specs.Validator.{IsVerdict, at_dates, with_basic, policy_with_chain, policy_with_not_after, policy_with_not_before, with_excluded, with_list, with_list_check, with_signing, without_basic, without_excluded};
 ghost use Rattle.authenticode_signature.specs.declared.pkcs7.Pkcs7.{Pkcs7};
 
 use crate::signature::AuthenticodeSignature;
-use authenticode_core::{Accepted, AuthenticodeError, DateCheck, Policy, check_signed_data};
+use authenticode_core::{
+    Accepted, AuthenticodeError, CertificateTrustList, DateCheck, Policy, check_signed_data,
+};
 use cms_types::SignedView;
 use der_core::{Octets, Structure, whole_element};
-use names_core::UtcDate;
+use names_core::{DirectoryName, NameList, UtcDate};
 use sig_core::Scheme;
-use std::alloc::Global;
+use std::alloc::{AllocError, Global};
 
 /// Validates an owned signature. Of the setters of one kind the last call counts.
 #[derive(Drop)]
 pub struct AuthenticodeValidator<'a> {
     signature: &'a AuthenticodeSignature,
-    policy: Policy,
+    policy: Policy<'a>,
 }
 
 impl AuthenticodeSignature {
-    /// A validator with all checks, without a digest of the file or a date yet. It doesn't
-    /// allocate.
+    /// A validator with all checks, without a digest of the file, a date or a trust list yet, and
+    /// without excluded names. It doesn't allocate.
     pub fn authenticode_verifier(&self, alloc: Global) -> AuthenticodeValidator<'_>
         ensures policy { result.policy ≡ first_policy }
         ensures signature { result.signature.now ≡ self.now }
@@ -173,6 +175,67 @@ impl<'a> AuthenticodeValidator<'a> {
         AuthenticodeValidator { signature, policy }
     }
 
+    /// The signer's CA must be on the trust list, if there is one, or excluded.
+    pub fn require_ca_against_ctl_check(mut self) -> Self
+        ensures policy { result.policy ≡ with_list_check true self.entry.policy }
+        ensures signature { result.signature.now ≡ self.entry.signature.now }
+    {
+        self.policy.against_list = true;
+        self
+    }
+
+    /// The signer's CA isn't checked. That of a token which excuses an expiry still must be on the
+    /// trust list, if there is one.
+    pub fn ignore_ca_against_ctl_check(mut self) -> Self
+        ensures policy { result.policy ≡ with_list_check false self.entry.policy }
+        ensures signature { result.signature.now ≡ self.entry.signature.now }
+    {
+        self.policy.against_list = false;
+        self
+    }
+
+    /// The trust list, and the time at which CAs must be on it, in whole seconds since 1601-01-01,
+    /// UTC.
+    pub fn ctl(self, list: &'a CertificateTrustList, now: i64) -> Self
+        ensures policy { result.policy ≡ with_list list.entry now self.entry.policy }
+        ensures signature { result.signature.now ≡ self.entry.signature.now }
+    {
+        let AuthenticodeValidator {
+            signature,
+            mut policy,
+        } = self;
+        policy.list = Some(list);
+        policy.now = now;
+        AuthenticodeValidator { signature, policy }
+    }
+
+    /// The signer's CA needn't be on the trust list if it has one of these names, which are added to
+    /// those from before. If memory runs out, nothing changes.
+    pub fn exclude_cert_authorities(&mut self, names: &[DirectoryName]) -> Result<(), AllocError>
+        ensures ok { OnOk result (self.new.policy ≡ with_excluded names.now self.old.policy) }
+        ensures signature { self.new.signature.now ≡ self.old.signature.now }
+        ensures err { OnErr result (self.new.policy ≡ self.old.policy) }
+    {
+        let excluded = joined(&self.policy.excluded, names)?;
+        self.policy.excluded = excluded;
+        self.policy.exclude = true;
+        Ok(())
+    }
+
+    /// No names are excluded.
+    pub fn ignore_excluded_cert_authorities(self) -> Self
+        ensures policy { result.policy ≡ without_excluded self.entry.policy }
+        ensures signature { result.signature.now ≡ self.entry.signature.now }
+    {
+        let AuthenticodeValidator {
+            signature,
+            mut policy,
+        } = self;
+        policy.exclude = false;
+        policy.excluded = NameList::new(policy.excluded.allocator());
+        AuthenticodeValidator { signature, policy }
+    }
+
     /// Validates the signature as written: the result is that of `check_wincert` for its encoding
     /// in a WIN_CERTIFICATE. A value without an encoding is refused before any check, as
     /// `Asn1DerError` with the cause for which `der_core::write` refuses its element.
@@ -194,23 +257,35 @@ impl<'a> AuthenticodeValidator<'a> {
     }
 }
 
+/// A copy of the names with copies of these behind them.
+fn joined(names: &NameList, more: &[DirectoryName]) -> Result<NameList, AllocError>
+    ensures { IfOk result (λ list. list ≡ names.now ++ more.now) }
+{
+    let alloc = names.allocator();
+    let mut list = names.try_clone(alloc)?;
+    for name in more {
+        list.push(name.try_clone(alloc)?)?;
+    }
+    Ok(list)
+}
+
 /// Checks the octets of signed data under a policy, in the order of `check_wincert`.
 fn check_octets<S: Scheme>(
     alloc: Global,
     octets: &[u8],
-    policy: &Policy,
+    policy: &Policy<'_>,
     scheme: &S,
 ) -> Result<Accepted, AuthenticodeError>
     requires { (signed : Pkcs7) × IsKept octets.now (written signed) }
     ensures answer { (signed : Pkcs7) → IsKept octets.now (written signed)
         → MatchResult result
-        (IsTrusted (S.judge scheme.now) policy.now (fields_of signed))
-        (RefusesAuthenticodeBy (policy_rules (S.judge scheme.now) policy.now (fields_of signed))) }
+        (IsTrusted (S.judge scheme.now) policy.entry.now (fields_of signed))
+        (RefusesAuthenticodeBy (policy_rules (S.judge scheme.now) policy.entry.now (fields_of signed))) }
     // A refusal of the form comes however much memory there is, and so does that of a missing
     // digest.
     ensures shape { (signed : Pkcs7) → IsKept octets.now (written signed) → (e : AuthenticodeError)
         → IsFirstBroken
-        (asked policy.now.basic (shape_rules (fields_of signed) policy.now.file_hash)) e
+        (asked policy.entry.now.basic (shape_rules (fields_of signed) policy.entry.now.file_hash)) e
         → result ≡ Err e }
 {
     let Some(elem) = whole_element(octets) else {

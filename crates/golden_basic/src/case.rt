@@ -5,6 +5,7 @@ use anyhow::{Result, bail};
 use authenticode_core::{Accepted, CheckError, Policy, check_wincert};
 use der_core::Octets;
 use golden::octets_of;
+use names_core::NameList;
 use sig_core::VerdictTable;
 use std::alloc::Global;
 use x509_core::DateCheck;
@@ -13,7 +14,7 @@ use x509_core::DateCheck;
 #[derive(Drop)]
 pub struct Case {
     pub file: Vec<u8>,
-    policy: Policy,
+    policy: Policy<'static>,
     table: VerdictTable,
 }
 
@@ -27,7 +28,7 @@ pub fn case_of(alloc: Global, file: &str, hash: &str, table: &str) -> Result<Cas
 }
 
 /// Basic validation alone, with a digest.
-fn policy_of(alloc: Global, word: &str) -> Result<Policy> {
+fn policy_of(alloc: Global, word: &str) -> Result<Policy<'static>> {
     let hash = octets_of(alloc, word)?;
     Ok(Policy {
         basic: true,
@@ -37,6 +38,11 @@ fn policy_of(alloc: Global, word: &str) -> Result<Policy> {
         not_after: false,
         chain: false,
         date: DateCheck::Absent,
+        against_list: false,
+        list: None,
+        now: 0,
+        exclude: false,
+        excluded: NameList::new(alloc),
     })
 }
 

@@ -5,14 +5,14 @@ use asn1_types::GeneralizedTime;
 use authenticode_core::Policy;
 use der_core::Octets;
 use golden::octets_of;
-use names_core::UtcDate;
+use names_core::{NameList, UtcDate};
 use std::alloc::Global;
 use x509_core::DateCheck;
 
 /// The policy, and the change of the file, `-` for none.
 #[derive(Drop)]
 pub struct Asked<'a> {
-    pub policy: Policy,
+    pub policy: Policy<'static>,
     pub change: &'a str,
 }
 
@@ -24,13 +24,18 @@ pub fn asked_of(alloc: Global, text: &str) -> Result<Asked<'_>> {
     let date = dates_of(lower, upper)?;
     let file_hash = hash_of(alloc, hash)?;
     Ok(Asked {
-        policy: policy_of(flags, file_hash, date)?,
+        policy: policy_of(alloc, flags, file_hash, date)?,
         change: *change,
     })
 }
 
 /// A flag is on if its letter is there.
-fn policy_of(flags: &str, file_hash: Option<Octets>, date: DateCheck) -> Result<Policy> {
+fn policy_of(
+    alloc: Global,
+    flags: &str,
+    file_hash: Option<Octets>,
+    date: DateCheck,
+) -> Result<Policy<'static>> {
     let mut policy = Policy {
         basic: false,
         file_hash,
@@ -39,6 +44,11 @@ fn policy_of(flags: &str, file_hash: Option<Octets>, date: DateCheck) -> Result<
         not_after: false,
         chain: false,
         date,
+        against_list: false,
+        list: None,
+        now: 0,
+        exclude: false,
+        excluded: NameList::new(alloc),
     };
     if flags != "-" {
         for flag in flags.bytes() {
@@ -48,7 +58,7 @@ fn policy_of(flags: &str, file_hash: Option<Octets>, date: DateCheck) -> Result<
     Ok(policy)
 }
 
-fn set(policy: &mut Policy, flag: u8) -> Result<()> {
+fn set(policy: &mut Policy<'static>, flag: u8) -> Result<()> {
     match flag {
         b'b' => policy.basic = true,
         b's' => policy.signing = true,

@@ -46,7 +46,12 @@ pub fn answer(alloc: Global, case: &Case, text: &str) -> Result<String> {
 }
 
 /// The line for the result, after `differs` if the result for the owned signature is another.
-fn line_of(alloc: Global, file: &[u8], policy: &Policy, table: &VerdictTable) -> Result<String> {
+fn line_of(
+    alloc: Global,
+    file: &[u8],
+    policy: &Policy<'_>,
+    table: &VerdictTable,
+) -> Result<String> {
     let line = file_line(alloc, file, policy, table)?;
     match kept_line(alloc, file, policy, table)? {
         Some(kept) if kept != line => Ok(format!(in alloc; "differs {line} from {kept}")?),
@@ -54,7 +59,12 @@ fn line_of(alloc: Global, file: &[u8], policy: &Policy, table: &VerdictTable) ->
     }
 }
 
-fn file_line(alloc: Global, file: &[u8], policy: &Policy, table: &VerdictTable) -> Result<String> {
+fn file_line(
+    alloc: Global,
+    file: &[u8],
+    policy: &Policy<'_>,
+    table: &VerdictTable,
+) -> Result<String> {
     told(alloc, &check_wincert(alloc, file, policy, table))
 }
 

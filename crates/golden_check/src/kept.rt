@@ -14,7 +14,7 @@ use wincert_core::WinCertificate;
 pub fn kept_line(
     alloc: Global,
     file: &[u8],
-    policy: &Policy,
+    policy: &Policy<'_>,
     table: &VerdictTable,
 ) -> Result<Option<String>> {
     let Some(signature) = signature_in(alloc, file) else {
@@ -26,7 +26,7 @@ pub fn kept_line(
 fn line_of(
     alloc: Global,
     signature: &AuthenticodeSignature,
-    policy: &Policy,
+    policy: &Policy<'_>,
     table: &VerdictTable,
 ) -> Result<String> {
     let hash = copy_of(alloc, &policy.file_hash)?;
@@ -49,7 +49,7 @@ fn copy_of(alloc: Global, hash: &Option<Octets>) -> Result<Option<Octets>, Alloc
 fn verified(
     alloc: Global,
     signature: &AuthenticodeSignature,
-    policy: &Policy,
+    policy: &Policy<'_>,
     hash: Option<Octets>,
     table: &VerdictTable,
 ) -> Result<Accepted, CheckError> {
@@ -60,6 +60,7 @@ fn verified(
     let verifier = with_not_before(verifier, policy.not_before);
     let verifier = with_not_after(verifier, policy.not_after);
     let verifier = with_dates(verifier, policy.date);
+    let verifier = verifier.ignore_ca_against_ctl_check();
     verified_by(alloc, &verifier, table)
 }
 

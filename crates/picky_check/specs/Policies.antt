@@ -1,12 +1,13 @@
 -- The policies of the commands for a signature file.
-use Rattle.std.specs.Prelude.{ℕ, List, Option, Some, None, true, false, not}
+use Rattle.std.specs.Prelude.{ℕ, List, [], Option, Some, None, true, false, not, pos}
 use Rattle.asn1_types.specs.declared.generalized_time.GeneralizedTime.{GeneralizedTime}
 use Rattle.authenticode_core.specs.declared.policy.Policy.{Policy}
 use Rattle.x509_core.specs.declared.window.DateCheck.{DateCheck}
 use Rattle.x509_core.specs.declared.window.DateCheck.TheVariants as dates
 use Rattle.picky_check.specs.declared.options.CheckOptions.{CheckOptions}
 
--- basic: the form, the digest HASH and the signature, without the signer's certificate
+-- basic: the form, the digest HASH and the signature, without the signer's certificate and without a
+-- trust list
 abbrev pub basic_policy : (hash : List ℕ) → Policy
 basic_policy hash = record {
   basic = true;
@@ -16,6 +17,11 @@ basic_policy hash = record {
   not_after = false;
   chain = false;
   date = dates.Absent;
+  against_list = false;
+  list = None;
+  now = pos 0;
+  exclude = false;
+  excluded = [];
 }
 
 -- the date DATE, or the interval from it to the other one
@@ -24,7 +30,7 @@ moments date None = dates.Exact date
 moments date (Some other) = dates.Interval date other
 
 -- check: the same, and the signer's certificate with those of its issuers, all of them valid at
--- DATE or the signer's expiry excused, except for what the options leave out
+-- DATE or the signer's expiry excused, except for what the options leave out; without a trust list
 abbrev pub check_policy : (hash : List ℕ) → (date : GeneralizedTime) → CheckOptions → Policy
 check_policy hash date o = record {
   basic = true;
@@ -34,4 +40,9 @@ check_policy hash date o = record {
   not_after = not o.no_after;
   chain = not o.no_chain;
   date = moments date o.until;
+  against_list = false;
+  list = None;
+  now = pos 0;
+  exclude = false;
+  excluded = [];
 }

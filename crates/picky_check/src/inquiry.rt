@@ -123,10 +123,10 @@ fn judge_by<S: Scheme>(
 fn judge_signature<S: Scheme>(
     alloc: Global,
     octets: &[u8],
-    policy: &Policy,
+    policy: &Policy<'_>,
     scheme: &S,
 ) -> Result<Report, Stop>
-    ensures { Reports (IsSignatureAnswer (S.judge scheme.now) policy.now octets.now) result }
+    ensures { Reports (IsSignatureAnswer (S.judge scheme.now) policy.entry.now octets.now) result }
 {
     let answer = check_wincert(alloc, octets, policy, scheme);
     report_of(alloc, &answer)

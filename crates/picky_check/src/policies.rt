@@ -6,11 +6,11 @@ ghost use Rattle.picky_check.specs.Policies.{basic_policy, check_policy, moments
 use crate::options::CheckOptions;
 use authenticode_core::{DateCheck, Policy};
 use der_core::Octets;
-use names_core::UtcDate;
+use names_core::{NameList, UtcDate};
 use std::alloc::{AllocError, Global};
 
 /// The policy of `basic`: the signer's certificate isn't checked.
-pub(crate) fn basic_policy(alloc: Global, hash: &[u8]) -> Result<Policy, AllocError>
+pub(crate) fn basic_policy(alloc: Global, hash: &[u8]) -> Result<Policy<'static>, AllocError>
     ensures { IfOk result (λ policy. policy ≡ basic_policy hash.now) }
 {
     Ok(Policy {
@@ -21,6 +21,11 @@ pub(crate) fn basic_policy(alloc: Global, hash: &[u8]) -> Result<Policy, AllocEr
         not_after: false,
         chain: false,
         date: DateCheck::Absent,
+        against_list: false,
+        list: None,
+        now: 0,
+        exclude: false,
+        excluded: NameList::new(alloc),
     })
 }
 
@@ -30,7 +35,7 @@ pub(crate) fn check_policy(
     hash: &[u8],
     date: UtcDate,
     options: CheckOptions,
-) -> Result<Policy, AllocError>
+) -> Result<Policy<'static>, AllocError>
     ensures { IfOk result (λ policy. policy ≡ check_policy hash.now date options) }
 {
     Ok(Policy {
@@ -41,6 +46,11 @@ pub(crate) fn check_policy(
         not_after: !options.no_after,
         chain: !options.no_chain,
         date: moments(date, options.until),
+        against_list: false,
+        list: None,
+        now: 0,
+        exclude: false,
+        excluded: NameList::new(alloc),
     })
 }
 

@@ -40,7 +40,7 @@ pub(crate) fn table_saying(alloc: Global, verdicts: &[&str]) -> Result<VerdictTa
 }
 
 /// Basic validation alone, for a file with this digest.
-pub(crate) fn basic_policy(alloc: Global, hash: &[u8]) -> Result<Policy, AllocError> {
+pub(crate) fn basic_policy(alloc: Global, hash: &[u8]) -> Result<Policy<'static>, AllocError> {
     let mut policy = Policy::new(alloc);
     policy.file_hash = Some(Octets::from_slice(alloc, hash)?);
     policy.signing = false;

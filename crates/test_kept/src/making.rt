@@ -114,7 +114,7 @@ fn is_accepted(alloc: Global, file: &[u8], hash: &[u8]) -> bool {
     }
 }
 
-fn basic_policy(alloc: Global, hash: &[u8]) -> Result<Policy, AllocError> {
+fn basic_policy(alloc: Global, hash: &[u8]) -> Result<Policy<'static>, AllocError> {
     let mut policy = Policy::new(alloc);
     policy.file_hash = Some(Octets::from_slice(alloc, hash)?);
     policy.signing = false;

@@ -15,7 +15,11 @@ use Rattle.x509_types.specs.CertificateElements.{CertificateElements}
 use Rattle.authenticode_core.specs.Basic.{VouchesFor}
 use Rattle.authenticode_core.specs.IssuerWalk.{IsIssuerPath}
 use Rattle.authenticode_core.specs.LinkedPath.{IsUnlinkedAt}
-use Rattle.authenticode_core.specs.SignerRules.{IsBadlyStamped, IsUnbegun, IsUnexcused, IsUnvouched}
+use Rattle.authenticode_core.specs.Inside.SigningSteps.{HasSignerAt}
+use Rattle.authenticode_core.specs.ListRules.{IsTrustedCaOf}
+use Rattle.authenticode_core.specs.SignerRules.{IsBadlyStamped, IsSignerVouched, IsUnbegun, IsUnexcused, IsUnvouched}
+use Rattle.authenticode_core.specs.declared.accepted.Accepted.{Accepted}
+use Rattle.authenticode_core.specs.declared.accepted.Excuse.TheVariants as excuses
 use Rattle.authenticode_core.specs.declared.error.AuthenticodeError.{AuthenticodeError}
 use Rattle.authenticode_core.specs.declared.policy.Policy.{Policy}
 
@@ -30,6 +34,22 @@ abbrev pub IsPlaceAsked : Bool → Judge → Option (List ℕ) → SignedDataEle
 IsPlaceAsked true judge file_hash f told =
     (place : ℕ) × IsVouchedAt judge file_hash f place × (told ≡ Some place)
 IsPlaceAsked false judge file_hash f told = told ≡ None
+
+-- where the certificate of the signer is asked for, it is vouched for; else its place is told, where
+-- it is known, and no path and no excuse
+abbrev pub IsSignerAsked : Bool → Judge → Policy → SignedDataElements → Option ℕ → Accepted → Type 0
+IsSignerAsked true judge policy f known a = IsSignerVouched judge policy f a
+IsSignerAsked false judge policy f known a =
+    (a.signer ≡ known) × (a.path ≡ []) × (a.excuse ≡ excuses.None)
+
+-- the certificate of the first signer stands at this place, and its CA is trusted by the list of the
+-- policy, where there is one
+abbrev pub IsListedAt : Policy → SignedDataElements → ℕ → Type 0
+IsListedAt policy f place = HasSignerAt f place × IsTrustedCaOf policy f
+
+-- the same is told, with this place
+abbrev pub at_place : Accepted → ℕ → Accepted
+at_place a place = record a { signer = Some place }
 
 -- the cause is that a certificate has expired
 abbrev pub IsExpiry : CertCause → Type 0

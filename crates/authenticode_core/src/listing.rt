@@ -1,0 +1,144 @@
+//! Whether the CA of the signer is on the trust list of a policy, or excluded, step by step.
+
+ghost use Rattle.std.specs.Prelude.{◌≡◌, ◌↔◌, ℕ, IfOk, IfSome, IsTrue, MatchResult};
+ghost use Rattle.cms_types.specs.SignedView.{data_elements};
+ghost use Rattle.der_core.specs.DerElement.{DerElement};
+ghost use Rattle.der_core.specs.Encoding.{encoding};
+ghost use Rattle.der_core.specs.Rules.{IsFirstBroken, OrMemory};
+ghost use Rattle.name_types.specs.Name.{name};
+ghost use Rattle.names_core.specs.Names.{sets_of};
+ghost use Rattle.x509_types.specs.CertificateView.{view_elements};
+ghost use Rattle.authenticode_core.specs.Inside.Form.{AreSpelled};
+ghost use Rattle.authenticode_core.specs.Inside.PolicySteps.{IsListedAt};
+ghost use Rattle.authenticode_core.specs.Inside.SigningSteps.{HasSigner, HasSignerAt};
+ghost use Rattle.authenticode_core.specs.ListRules.{HasName, HasUntrustedCa, IsExcluded, IsSignerCa, IsTrustedCaOf, ca_rules};
+ghost use Rattle.authenticode_core.specs.SigningRules.{RefusesAuthenticodeBy};
+ghost use Rattle.authenticode_core.specs.TrustList.{IsOnList, name_rules};
+ghost use Rattle.authenticode_core.specs.declared.error.AuthenticodeError.TheVariants as errors;
+
+use crate::authority::authority_name;
+use crate::ctl::CertificateTrustList;
+use crate::error::AuthenticodeError;
+use crate::path::others::Source;
+use crate::policy::Policy;
+use crate::signer::certificates::issuer_walk_of;
+use crate::signer::{expect_first, expect_named};
+use cms_types::SignedView;
+use der_core::Structure;
+use names_core::DirectoryName;
+use std::alloc::{AllocError, Global};
+use trust_list::expect_listed;
+use x509_types::CertView;
+
+/// The CA of the first signer is trusted by the list of a policy: the place of the certificate of
+/// this signer. The first of these is answered that doesn't hold: there is a signer; some
+/// certificate is named; where the policy has a list, the CA of its issuer walk is on it, or
+/// excluded. The place of the certificate may be known.
+pub(crate) fn expect_listed_signer(
+    alloc: Global,
+    signed_data: &SignedView<'_>,
+    known: Option<usize>,
+    policy: &Policy<'_>,
+) -> Result<usize, AuthenticodeError>
+    requires spelled { AreSpelled (data_elements signed_data.now) }
+    requires known { IfSome known (HasSignerAt (data_elements signed_data.now)) }
+    ensures { MatchResult result (IsListedAt policy.entry.now (data_elements signed_data.now))
+        (RefusesAuthenticodeBy (ca_rules policy.entry.now (data_elements signed_data.now))) }
+{
+    let first = expect_first(signed_data)?;
+    let named = expect_named(alloc, signed_data, &first, known)?;
+    expect_ca(alloc, signed_data, &named.certificate, policy)?;
+    Ok(named.place)
+}
+
+/// Where the policy has a list, the CA of the signer is on it, or excluded. Which names are
+/// excluded is asked last.
+fn expect_ca(
+    alloc: Global,
+    signed_data: &SignedView<'_>,
+    signer: &CertView<'_>,
+    policy: &Policy<'_>,
+) -> Result<(), AuthenticodeError>
+    requires { (place : ℕ) × HasSigner (data_elements signed_data.now) place
+        (view_elements signer.now) }
+    ensures { MatchResult result (λ _. IsTrustedCaOf policy.entry.now (data_elements signed_data.now))
+        (OrMemory errors.Memory (HasUntrustedCa policy.entry.now (data_elements signed_data.now))) }
+{
+    let Some(list) = policy.list else {
+        return Ok(());
+    };
+    let ca = signer_ca(signed_data, signer);
+    match expect_on_list(list, ca, policy.now) {
+        Ok(()) => Ok(()),
+        Err(error) => expect_excluded(alloc, ca, policy, error),
+    }
+}
+
+/// The name of the CA of the signer, by its octets. It takes no memory.
+fn signer_ca<'a>(signed_data: &SignedView<'a>, signer: &CertView<'a>) -> &'a [u8]
+    requires { (place : ℕ) × HasSigner (data_elements signed_data.now) place
+        (view_elements signer.now) }
+    ensures { (ca : DerElement) × IsSignerCa (data_elements signed_data.now) ca
+        × (result.now ≡ encoding ca) }
+{
+    match authority_name(Source::Walk(issuer_walk_of(signed_data, signer))) {
+        Some(name) => name,
+        None => unreachable!(),
+    }
+}
+
+/// The name of a CA, by its octets, is on a list at a time. It takes no memory.
+pub(crate) fn expect_on_list(
+    list: &CertificateTrustList,
+    name: &[u8],
+    now: i64,
+) -> Result<(), AuthenticodeError>
+    ensures { (ca : DerElement) → name.now ≡ encoding ca
+        → MatchResult result (λ _. IsOnList list.now now ca)
+        (IsFirstBroken (name_rules list.now now ca)) }
+{
+    let entries = list.ctl_entries()?;
+    expect_listed(entries, name, now)?;
+    Ok(())
+}
+
+/// The name of a CA, by its octets, is an excluded one; else this error is answered.
+fn expect_excluded(
+    alloc: Global,
+    name: &[u8],
+    policy: &Policy<'_>,
+    error: AuthenticodeError,
+) -> Result<(), AuthenticodeError>
+    ensures { (ca : DerElement) → name.now ≡ encoding ca
+        → MatchResult result (λ _. IsExcluded policy.entry.now ca)
+        (OrMemory errors.Memory (λ e. (e ≡ error) × (IsExcluded policy.entry.now ca → ⊥))) }
+{
+    if policy.exclude && has_name(alloc, policy.excluded.as_slice(), name)? {
+        return Ok(());
+    }
+    Err(error)
+}
+
+/// Whether one of the names is this one, by its octets. It is known to be a name, so it is refused
+/// for want of memory alone.
+fn has_name(alloc: Global, names: &[DirectoryName], name: &[u8]) -> Result<bool, AllocError>
+    ensures { (element : DerElement) → name.now ≡ encoding element
+        → IfOk result (λ told. IsTrue told ↔ HasName names.now element) }
+{
+    let Ok(read) = DirectoryName::from_der(alloc, name) else {
+        return Err(AllocError);
+    };
+    Ok(is_among(names, &read))
+}
+
+/// Whether one of the names is this one.
+fn is_among(names: &[DirectoryName], asked: &DirectoryName) -> bool
+    ensures { IsTrue result ↔ HasName names.now (name (sets_of asked.now)) }
+{
+    for one in names {
+        if *one == *asked {
+            return true;
+        }
+    }
+    false
+}
