@@ -25,6 +25,10 @@ pub mod NamedCertificates
 pub mod AcceptedSignatures
 pub mod Tokens
 pub mod StampSteps
+pub mod TokenBags
+pub mod GivenLists
+pub mod OnList
+pub mod OneCa
 pub mod OneExcuse
 pub mod OnePath
 pub mod WalkedAll
@@ -35,5 +39,6 @@ pub mod KeptOctets
 pub mod BasicOrder
 pub mod SignerOrder
 pub mod OneSignerRule
+pub mod CaOrder
 pub mod PolicyOrder
 pub mod OneAnswer

@@ -37,10 +37,10 @@ asked_or_not b off on = absurd cc
 
 -- ---- each is reported by one error
 
-key_name_once : (f : SignedDataElements) → IsToldOnce (HasKeyName f)
+pub key_name_once : (f : SignedDataElements) → IsToldOnce (HasKeyName f)
 key_name_once f = λ a b p q. p.2.2 ∙ sym q.2.2
 
-unknown_name_once : (f : SignedDataElements) → IsToldOnce (HasUnknownName f)
+pub unknown_name_once : (f : SignedDataElements) → IsToldOnce (HasUnknownName f)
 unknown_name_once f = λ a b p q.
     certificate_once f q.0 a b (subst (λ (g : SignerElements). HasNoCertificate f g a) (first_once f p.0 q.0 p.1 q.1) p.2) q.2
 
@@ -60,7 +60,7 @@ module _ (judge : Judge) (policy : Policy) (f : SignedDataElements) where
 
   stamped_once : IsToldOnce (IsBadlyStamped judge policy f)
   stamped_once = λ a b p q.
-      stamp_once judge f p.bag p.signer.elements a b p.stamp (stamped_at judge policy f p.bag p.place p.signer p.is b q).1
+      stamp_once judge policy f p.bag p.signer.elements a b p.stamp (stamped_at judge policy f p.bag p.place p.signer p.is b q).1
 
   unvouched_once : IsToldOnce (IsUnvouched judge policy f)
   unvouched_once = λ a b p q.
@@ -101,9 +101,9 @@ module _ (judge : Judge) (policy : Policy) (f : SignedDataElements) where
     same_excuse excuses.None excuses.Token a b = absurd (valid_or_expired (window_of policy) signer.elements a b.0)
     same_excuse excuses.Bag excuses.None a b = absurd (valid_or_expired (window_of policy) signer.elements b a.0)
     same_excuse excuses.Bag excuses.Bag a b = refl
-    same_excuse excuses.Bag excuses.Token a b = reason_once judge f bag signer.elements excuses.Bag excuses.Token a.1 b.1
+    same_excuse excuses.Bag excuses.Token a b = reason_once judge policy f bag signer.elements excuses.Bag excuses.Token a.1 b.1
     same_excuse excuses.Token excuses.None a b = absurd (valid_or_expired (window_of policy) signer.elements b a.0)
-    same_excuse excuses.Token excuses.Bag a b = reason_once judge f bag signer.elements excuses.Token excuses.Bag a.1 b.1
+    same_excuse excuses.Token excuses.Bag a b = reason_once judge policy f bag signer.elements excuses.Token excuses.Bag a.1 b.1
     same_excuse excuses.Token excuses.Token a b = refl
 
     pub standing_once : (p q : List ℕ) (x y : Excuse) → IsStanding judge policy f bag signer p x → IsStanding judge policy f bag signer q y → (p ≡ q) × (x ≡ y)

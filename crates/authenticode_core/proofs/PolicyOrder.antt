@@ -6,8 +6,9 @@ use Rattle.cms_types.specs.SignedDataElements.{SignedDataElements}
 use Rattle.der_core.specs.Rules.{Rule, IsFirstBroken}
 use Rattle.der_core.proofs.RuleLists.{AreMet, AreToldOnce, broken_before, broken_behind, met_together, none_broken, told_together}
 use Rattle.key_core.specs.Verifying.{Judge}
-use Rattle.authenticode_core.specs.Inside.PolicySteps.{IsPlaceAsked, IsVouchedAt}
+use Rattle.authenticode_core.specs.Inside.PolicySteps.{IsListedAt, IsPlaceAsked, IsSignerAsked, IsVouchedAt, at_place}
 use Rattle.authenticode_core.specs.Inside.SigningSteps.{HasSignerAt}
+use Rattle.authenticode_core.specs.ListRules.{IsSignerListed, ca_rules}
 use Rattle.authenticode_core.specs.SignerRules.{IsSignerVouched, signer_rules}
 use Rattle.authenticode_core.specs.SigningRules.{RefusesAuthenticodeBy}
 use Rattle.authenticode_core.specs.Trusted.{IsBasicallyVouched, IsTrusted, asked, basic_rules, policy_rules, shape_rules}
@@ -16,6 +17,7 @@ use Rattle.authenticode_core.specs.declared.accepted.Excuse.TheVariants as excus
 use Rattle.authenticode_core.specs.declared.error.AuthenticodeError.{AuthenticodeError}
 use Rattle.authenticode_core.specs.declared.policy.Policy.{Policy}
 use Rattle.authenticode_core.proofs.BasicOrder.{basic_met, basic_told, one_vouched_place, shape_in_basic}
+use Rattle.authenticode_core.proofs.CaOrder.{ca_met, ca_told}
 use Rattle.authenticode_core.proofs.OneSignerRule.{same_accepted, signer_met, signer_told, vouched_once}
 use Rattle.authenticode_core.proofs.OneSigning.{signer_once}
 
@@ -43,20 +45,33 @@ module _ (judge : Judge) (policy : Policy) (f : SignedDataElements) where
   abbrev first_rules : List (Rule AuthenticodeError)
   first_rules = asked policy.basic (basic_rules judge f policy.file_hash)
 
-  abbrev last_rules : List (Rule AuthenticodeError)
-  last_rules = asked policy.signing (signer_rules judge policy f)
+  abbrev signer_part : List (Rule AuthenticodeError)
+  signer_part = asked policy.signing (signer_rules judge policy f)
+
+  abbrev ca_part : List (Rule AuthenticodeError)
+  ca_part = asked policy.against_list (ca_rules policy f)
+
+  abbrev later_rules : List (Rule AuthenticodeError)
+  later_rules = signer_part ++ ca_part
 
   -- ---- each is reported by one error
 
+  later_told : AreToldOnce later_rules
+  later_told =
+      told_together signer_part ca_part (asked_told policy.signing (signer_rules judge policy f) (signer_told judge policy f)) (asked_told policy.against_list (ca_rules policy f) (ca_told policy f))
+
   pub policy_told : AreToldOnce (policy_rules judge policy f)
-  policy_told = told_together first_rules last_rules (asked_told policy.basic (basic_rules judge f given) (basic_told f given judge)) (asked_told policy.signing (signer_rules judge policy f) (signer_told judge policy f))
+  policy_told = told_together first_rules later_rules (asked_told policy.basic (basic_rules judge f given) (basic_told f given judge)) later_told
 
   -- ---- trusted signed data breaks none
 
+  later_met : (a : Accepted) → IsTrusted judge policy f a → AreMet later_rules
+  later_met a t =
+      met_together signer_part ca_part (asked_met policy.signing (signer_rules judge policy f) (λ on. signer_met judge policy f a (t.signing on))) (asked_met policy.against_list (ca_rules policy f) (λ on. ca_met policy f a (t.listed on)))
+
   trusted_met : (a : Accepted) → IsTrusted judge policy f a → AreMet (policy_rules judge policy f)
   trusted_met a t =
-      met_together first_rules last_rules (asked_met policy.basic (basic_rules judge f given) (λ on. let v = t.basic on in basic_met f given judge v.place (v.hash, v.given, v.vouches)))
-      (asked_met policy.signing (signer_rules judge policy f) (λ on. signer_met judge policy f a (t.signing on)))
+      met_together first_rules later_rules (asked_met policy.basic (basic_rules judge f given) (λ on. let v = t.basic on in basic_met f given judge v.place (v.hash, v.given, v.vouches))) (later_met a t)
 
   pub trusted_unbroken : (a : Accepted) (e : AuthenticodeError) → IsTrusted judge policy f a → IsFirstBroken (policy_rules judge policy f) e → ⊥
   trusted_unbroken a e t broken = none_broken (policy_rules judge policy f) (trusted_met a t) e broken
@@ -67,14 +82,21 @@ module _ (judge : Judge) (policy : Policy) (f : SignedDataElements) where
     same_places : IsBasicallyVouched judge given f a → IsBasicallyVouched judge given f b → a.signer ≡ b.signer
     same_places v w = v.told ∙ ap Some (one_vouched_place f given judge v.place w.place (v.hash, v.given, v.vouches) (w.hash, w.given, w.vouches)) ∙ sym w.told
 
+    same_listed : IsSignerListed policy f a → IsSignerListed policy f b → a.signer ≡ b.signer
+    same_listed v w = v.told ∙ ap Some (signer_once f v.bag w.bag v.place w.place v.certificate w.certificate v.is_bag w.is_bag v.is_signer w.is_signer).0 ∙ sym w.told
+
     unasked : policy.signing ≡ false → a.signer ≡ b.signer → a ≡ b
     unasked off signer = same_accepted judge policy f a b signer ((t.pathless off).0 ∙ sym (u.pathless off).0) ((t.pathless off).1 ∙ sym (u.pathless off).1)
+
+    by_list : (list : Bool) → policy.basic ≡ false → policy.signing ≡ false → policy.against_list ≡ list → a ≡ b
+    by_list true basic off on = unasked off (same_listed (t.listed on) (u.listed on))
+    by_list false basic off none = unasked off (t.placeless basic off none ∙ sym (u.placeless basic off none))
 
     one_by : (basic signing : Bool) → policy.basic ≡ basic → policy.signing ≡ signing → a ≡ b
     one_by true true basic on = vouched_once judge policy f a b (t.signing on) (u.signing on)
     one_by false true basic on = vouched_once judge policy f a b (t.signing on) (u.signing on)
     one_by true false basic off = unasked off (same_places (t.basic basic) (u.basic basic))
-    one_by false false basic off = unasked off (t.placeless basic off ∙ sym (u.placeless basic off))
+    one_by false false basic off = by_list policy.against_list basic off refl
 
     pub one_trusted : a ≡ b
     one_trusted = one_by policy.basic policy.signing refl refl
@@ -86,10 +108,10 @@ module _ (judge : Judge) (policy : Policy) (f : SignedDataElements) where
   shape_asked false e broken = absurd broken
 
   pub shape_in_policy : (e : AuthenticodeError) → IsFirstBroken (asked policy.basic (shape_rules f given)) e → IsFirstBroken (policy_rules judge policy f) e
-  shape_in_policy e broken = broken_before first_rules last_rules e (shape_asked policy.basic e broken)
+  shape_in_policy e broken = broken_before first_rules later_rules e (shape_asked policy.basic e broken)
 
   pub basic_refuses : (e : AuthenticodeError) → RefusesAuthenticodeBy first_rules e → RefusesAuthenticodeBy (policy_rules judge policy f) e
-  basic_refuses e (inl broken) = inl (broken_before first_rules last_rules e broken)
+  basic_refuses e (inl broken) = inl (broken_before first_rules later_rules e broken)
   basic_refuses e (inr memory) = inr memory
 
   place_met : (b : Bool) (told : Option ℕ) → IsPlaceAsked b judge given f told → AreMet (asked b (basic_rules judge f given))
@@ -114,34 +136,102 @@ module _ (judge : Judge) (policy : Policy) (f : SignedDataElements) where
       let s = at.2.signed in
       v.told ∙ ap Some (signer_once f v.bag s.bag v.place place v.signer.elements s.certificate v.is.is_bag s.is_bag v.is.is_signer s.is_signer).0
 
-  with_signer : (told : Option ℕ) (a : Accepted) → IsPlaceAsked policy.basic judge given f told → policy.signing ≡ true → IsSignerVouched judge policy f a → IsTrusted judge policy f a
-  with_signer told a at signing v = record {
-    basic = λ on. placed policy.basic told a at on (λ place vouched is. same_signer a v place vouched);
-    signing = λ on. v;
-    pathless = λ off. absurd (on_or_off policy.signing signing off);
-    placeless = λ none off. absurd (on_or_off policy.signing signing off);
-  }
-
-  pub signer_or_not : (told : Option ℕ) → IsPlaceAsked policy.basic judge given f told → policy.signing ≡ true → (r : Result Accepted AuthenticodeError) → MatchResult r (IsSignerVouched judge policy f) (RefusesAuthenticodeBy (signer_rules judge policy f))
-      → MatchResult r (IsTrusted judge policy f) (RefusesAuthenticodeBy (policy_rules judge policy f))
-  signer_or_not told at signing (Ok a) v = with_signer told a at signing v
-  signer_or_not told at signing (Err e) (inl broken) = inl (behind_asked policy.signing first_rules (signer_rules judge policy f) e signing (place_met policy.basic told at) broken)
-  signer_or_not told at signing (Err e) (inr memory) = inr memory
-
-  abbrev accepted_with : Option ℕ → List ℕ → Accepted
-  accepted_with told path = record { signer = told; path = path; excuse = excuses.None }
-
   unplaced : (b : Bool) (told : Option ℕ) → IsPlaceAsked b judge given f told → b ≡ false → told ≡ None
   unplaced true told at off = absurd (cc off)
   unplaced false told none off = none
 
-  pub without_signer : (told : Option ℕ) (path : List ℕ) → IsPlaceAsked policy.basic judge given f told → policy.signing ≡ false → path ≡ [] → IsTrusted judge policy f (accepted_with told path)
-  without_signer told path at off empty = record {
-    basic = λ on. placed policy.basic told (accepted_with told path) at on (λ place vouched is. is);
-    signing = λ on. absurd (on_or_off policy.signing on off);
-    pathless = λ none. (empty, refl);
-    placeless = λ none none'. unplaced policy.basic told at none;
-  }
+  abbrev accepted_with : Option ℕ → List ℕ → Accepted
+  accepted_with told path = record { signer = told; path = path; excuse = excuses.None }
+
+  -- ---- where the certificate of the signer is asked for, and where it isn't
+
+  pub signer_on : (b : Bool) (told : Option ℕ) (r : Result Accepted AuthenticodeError) → b ≡ true → MatchResult r (IsSignerVouched judge policy f) (RefusesAuthenticodeBy (signer_rules judge policy f))
+      → MatchResult r (IsSignerAsked b judge policy f told) (RefusesAuthenticodeBy (asked b (signer_rules judge policy f)))
+  signer_on true told r on answer = answer
+  signer_on false told r on answer = absurd cc
+
+  pub signer_off : (b : Bool) (told : Option ℕ) (path : List ℕ) → b ≡ false → path ≡ [] → IsSignerAsked b judge policy f told (accepted_with told path)
+  signer_off true told path off empty = absurd cc
+  signer_off false told path off empty = (refl, empty, refl)
+
+  signer_part_met : (b : Bool) (told : Option ℕ) (a : Accepted) → IsSignerAsked b judge policy f told a → AreMet (asked b (signer_rules judge policy f))
+  signer_part_met true told a v = signer_met judge policy f a v
+  signer_part_met false told a v = tt
+
+  -- the place that is told is that of the signer's certificate
+  pub told_is_signers : (b : Bool) (told : Option ℕ) (a : Accepted) → IsSignerAsked b judge policy f told a → IfSome told (HasSignerAt f) → IfSome a.signer (HasSignerAt f)
+  told_is_signers true told a v has = subst (λ (t : Option ℕ). IfSome t (HasSignerAt f)) (sym v.told) (v.signer.elements, (v.bag, v.is.is_bag, v.is.is_signer))
+  told_is_signers false told a v has = subst (λ (t : Option ℕ). IfSome t (HasSignerAt f)) (sym v.0) has
+
+  module _ (told : Option ℕ) (a : Accepted) where
+    told_there : (b : Bool) → IsSignerAsked b judge policy f told a → (place : ℕ) → IsVouchedAt judge given f place → told ≡ Some place → a.signer ≡ Some place
+    told_there true v place vouched is = same_signer a v place vouched
+    told_there false v place vouched is = v.0 ∙ is
+
+    vouched_on : (b : Bool) → IsSignerAsked b judge policy f told a → b ≡ true → IsSignerVouched judge policy f a
+    vouched_on true v on = v
+    vouched_on false v on = absurd cc
+
+    pathless_off : (b : Bool) → IsSignerAsked b judge policy f told a → b ≡ false → (a.path ≡ []) × (a.excuse ≡ excuses.None)
+    pathless_off true v off = absurd cc
+    pathless_off false v off = (v.1, v.2)
+
+    placeless_off : (b : Bool) → IsSignerAsked b judge policy f told a → told ≡ None → b ≡ false → a.signer ≡ None
+    placeless_off true v none off = absurd cc
+    placeless_off false v none off = v.0 ∙ none
+
+    module _ (at : IsPlaceAsked policy.basic judge given f told) where
+      pub signer_refuses : (e : AuthenticodeError) → RefusesAuthenticodeBy signer_part e → RefusesAuthenticodeBy (policy_rules judge policy f) e
+      signer_refuses e (inl broken) = inl (broken_behind first_rules later_rules e (place_met policy.basic told at) (broken_before signer_part ca_part e broken))
+      signer_refuses e (inr memory) = inr memory
+
+      module _ (v : IsSignerAsked policy.signing judge policy f told a) where
+        -- ---- where its CA isn't asked for
+
+        pub without_list : policy.against_list ≡ false → IsTrusted judge policy f a
+        without_list off = record {
+          basic = λ on. placed policy.basic told a at on (told_there policy.signing v);
+          signing = λ on. vouched_on policy.signing v on;
+          listed = λ on. absurd (on_or_off policy.against_list on off);
+          pathless = λ none. pathless_off policy.signing v none;
+          placeless = λ basic signing none. placeless_off policy.signing v (unplaced policy.basic told at basic) signing;
+        }
+
+        -- ---- and where it is
+
+        pub ca_refuses : (e : AuthenticodeError) → policy.against_list ≡ true → RefusesAuthenticodeBy (ca_rules policy f) e → RefusesAuthenticodeBy (policy_rules judge policy f) e
+        ca_refuses e on (inl broken) =
+            inl (broken_behind first_rules later_rules e (place_met policy.basic told at) (behind_asked policy.against_list signer_part (ca_rules policy f) e on (signer_part_met policy.signing told a v) broken))
+        ca_refuses e on (inr memory) = inr memory
+
+        module _ (place : ℕ) (at_list : IsListedAt policy f place) (on : policy.against_list ≡ true) where
+          abbrev there : HasSignerAt f place
+          there = at_list.0
+
+          same_as : (other : ℕ) → IsVouchedAt judge given f other → place ≡ other
+          same_as other vouched =
+              let s = vouched.2.signed in
+              (signer_once f there.1.0 s.bag place other there.0 s.certificate there.1.1 s.is_bag there.1.2 s.is_signer).0
+
+          vouched_there : IsSignerVouched judge policy f a → IsSignerVouched judge policy f (at_place a place)
+          vouched_there w = record {
+            bag = w.bag;
+            place = w.place;
+            signer = w.signer;
+            is = w.is;
+            told = ap Some (signer_once f there.1.0 w.bag place w.place there.0 w.signer.elements there.1.1 w.is.is_bag there.1.2 w.is.is_signer).0;
+            dated = w.dated;
+            stands = w.stands;
+          }
+
+          pub with_list : IsTrusted judge policy f (at_place a place)
+          with_list = record {
+            basic = λ basic. placed policy.basic told (at_place a place) at basic (λ other vouched is. ap Some (same_as other vouched));
+            signing = λ signing. vouched_there (vouched_on policy.signing v signing);
+            listed = λ list. record { bag = there.1.0; is_bag = there.1.1; place = place; certificate = there.0; is_signer = there.1.2; told = refl; listed = at_list.1 };
+            pathless = λ none. pathless_off policy.signing v none;
+            placeless = λ basic signing none. absurd (on_or_off policy.against_list on none);
+          }
 
   -- ---- with and without basic validation
 

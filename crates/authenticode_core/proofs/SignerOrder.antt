@@ -171,7 +171,7 @@ module _ (judge : Judge) (policy : Policy) (f : SignedDataElements) where
       IsExpired (window_of policy) signer.elements × HasNoExcuse f bag signer.elements × (cause : CertError) × IsOutside (window_of policy) signer cause × (e ≡ errors.CertError cause)
 
   abbrev pub StampedAt : AuthenticodeError → List CertificateElements → KeptCertificate → Type 0
-  StampedAt e bag signer = IsExpired (window_of policy) signer.elements × HasBadStamp judge f bag signer.elements e
+  StampedAt e bag signer = IsExpired (window_of policy) signer.elements × HasBadStamp judge policy f bag signer.elements e
 
   abbrev pub UnvouchedAt : AuthenticodeError → List CertificateElements → KeptCertificate → Type 0
   UnvouchedAt e bag signer =
@@ -208,12 +208,12 @@ module _ (judge : Judge) (policy : Policy) (f : SignedDataElements) where
       ),
     )
 
-    excuse_met : (x : Excuse) → IsExpired (window_of policy) signer.elements → HasReason judge f bag signer.elements x → AreMet (validity_rules judge policy f)
+    excuse_met : (x : Excuse) → IsExpired (window_of policy) signer.elements → HasReason judge policy f bag signer.elements x → AreMet (validity_rules judge policy f)
     excuse_met x expired reason = (
       begun_met expired,
       (
-        λ e broken. reason_or_not judge f bag signer.elements x reason (unexcused_at e broken).1,
-        (λ e broken. bad_stamp_is_no_reason judge f bag signer.elements e x (stamped_at e broken).1 reason, tt),
+        λ e broken. reason_or_not judge policy f bag signer.elements x reason (unexcused_at e broken).1,
+        (λ e broken. bad_stamp_is_no_reason judge policy f bag signer.elements e x (stamped_at e broken).1 reason, tt),
       ),
     )
 
@@ -223,8 +223,8 @@ module _ (judge : Judge) (policy : Policy) (f : SignedDataElements) where
     validity_met excuses.Bag valid = excuse_met excuses.Bag valid.0 valid.1
     validity_met excuses.Token valid = excuse_met excuses.Token valid.0 valid.1
 
-    pub unexcused_met : (e : AuthenticodeError) → HasBadStamp judge f bag signer.elements e → IsMet (IsUnexcused policy f)
-    unexcused_met e stamp = λ x broken. bad_stamp_is_told judge f bag signer.elements e stamp (unexcused_at x broken).1
+    pub unexcused_met : (e : AuthenticodeError) → HasBadStamp judge policy f bag signer.elements e → IsMet (IsUnexcused policy f)
+    unexcused_met e stamp = λ x broken. bad_stamp_is_told judge policy f bag signer.elements e stamp (unexcused_at x broken).1
 
     -- ---- refusals
 
@@ -256,7 +256,7 @@ module _ (judge : Judge) (policy : Policy) (f : SignedDataElements) where
       }),
     ))
 
-    pub badly_stamped : (e : AuthenticodeError) → IsExpired (window_of policy) signer.elements → HasBadStamp judge f bag signer.elements e → RefusesAuthenticodeBy (validity_rules judge policy f) e
+    pub badly_stamped : (e : AuthenticodeError) → IsExpired (window_of policy) signer.elements → HasBadStamp judge policy f bag signer.elements e → RefusesAuthenticodeBy (validity_rules judge policy f) e
     badly_stamped e expired stamp =
         inl (inr (begun_met expired, inr (unexcused_met e stamp, inl (record { bag = bag; place = place; signer = signer; is = is; expired = expired; stamp = stamp }))))
 
@@ -305,7 +305,7 @@ module _ (judge : Judge) (policy : Policy) (f : SignedDataElements) where
     pub no_excuse : (cause : CertError) → Breaks (IsOutside (window_of policy) signer) cause → TellsExpiry cause → HasNoExcuse f bag signer.elements → RefusesAuthenticodeBy (validity_rules judge policy f) (of_certificates cause)
     no_excuse cause breaks tells none = unexcused cause (expired_by cause breaks tells) (has_expired cause breaks tells) none
 
-    pub stamped_or_memory : (cause : CertError) (e : AuthenticodeError) → Breaks (IsOutside (window_of policy) signer) cause → TellsExpiry cause → HasBadStamp judge f bag signer.elements e ⊎ (e ≡ errors.Memory)
+    pub stamped_or_memory : (cause : CertError) (e : AuthenticodeError) → Breaks (IsOutside (window_of policy) signer) cause → TellsExpiry cause → HasBadStamp judge policy f bag signer.elements e ⊎ (e ≡ errors.Memory)
         → RefusesAuthenticodeBy (validity_rules judge policy f) e
     stamped_or_memory cause e breaks tells (inl stamp) = badly_stamped e (has_expired cause breaks tells) stamp
     stamped_or_memory cause e breaks tells (inr memory) = inr memory
@@ -317,7 +317,7 @@ module _ (judge : Judge) (policy : Policy) (f : SignedDataElements) where
 
     -- ---- acceptance
 
-    pub reason_is_enough : (x : Excuse) → IsExpired (window_of policy) signer.elements → HasReason judge f bag signer.elements x → IsValidOrExcusable judge policy f bag signer.elements x
+    pub reason_is_enough : (x : Excuse) → IsExpired (window_of policy) signer.elements → HasReason judge policy f bag signer.elements x → IsValidOrExcusable judge policy f bag signer.elements x
     reason_is_enough excuses.None expired reason = absurd reason
     reason_is_enough excuses.Bag expired reason = (expired, reason)
     reason_is_enough excuses.Token expired reason = (expired, reason)

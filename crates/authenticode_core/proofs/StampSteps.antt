@@ -5,17 +5,20 @@ use Rattle.std.specs.Option.{is_some}
 use Rattle.std.proofs.lemmas.Option.{slice_get_within}
 use Rattle.asn1_types.specs.declared.oids.TheConstants.{KP_TIME_STAMPING}
 use Rattle.cms_types.specs.SignedDataElements.{SignedDataElements}
+use Rattle.der_core.specs.Rules.{IsFirstBroken}
 use Rattle.key_core.specs.Verifying.{Judge}
 use Rattle.x509_types.specs.CertificateElements.{CertificateElements}
 use Rattle.x509_types.specs.CertificateView.{view_elements}
 use Rattle.x509_types.specs.Purposes.{NamesPurpose}
-use Rattle.authenticode_core.specs.Excuses.{HasBadStamp, HasToken, IsForStamping, NamesLifetime, NamesTimeStamping}
-use Rattle.authenticode_core.specs.Inside.ExcuseSteps.{LeadsStamping, TellsUnlinked}
+use Rattle.authenticode_core.specs.Excuses.{HasBadStamp, HasToken, IsForStamping, IsLinkedToken, IsUnlinkedStamp, IsUnlistedStamp, NamesLifetime, NamesTimeStamping, stamp_rules}
+use Rattle.authenticode_core.specs.Inside.ExcuseSteps.{LeadsStamping}
 use Rattle.authenticode_core.specs.Places.{HasNoPlace, IsLeastPlace, StandsAt}
 use Rattle.authenticode_core.specs.SigningRules.{IsBagOf}
 use Rattle.authenticode_core.specs.declared.error.AuthenticodeError.{AuthenticodeError}
 use Rattle.authenticode_core.specs.declared.error.AuthenticodeError.TheVariants as errors
+use Rattle.authenticode_core.specs.declared.policy.Policy.{Policy}
 use Rattle.authenticode_core.specs.declared.signer.bag.BagCertificate.{BagCertificate}
+use Rattle.authenticode_core.proofs.OneExcuse.{linked_stamp_met}
 
 -- ---- a bag with a certificate for time stamping
 
@@ -29,7 +32,7 @@ named_or_not (Some k) moved bag start t e found is = (λ w. (k.place, view_eleme
 
 -- ---- its first certificate
 
-some_place : (bag : List CertificateElements) → NamesTimeStamping bag → length bag ≡ 0 → ⊥
+pub some_place : (bag : List CertificateElements) → NamesTimeStamping bag → length bag ≡ 0 → ⊥
 some_place bag (place, c, stands, named) none =
     let within = slice_get_within bag place c stands in
     omega (arith, within, none)
@@ -44,19 +47,15 @@ leads_or_none (Some k) moved t bag start e is named placed stands = record {
   stands = subst (λ (place : ℕ). StandsAt bag place (view_elements k.certificate)) (placed.0 ∙ e) stands;
 }
 
--- ---- what is reported if it isn't linked
+-- ---- what is reported if it isn't linked, or its CA isn't listed
 
-pub told_or_memory : (judge : Judge) (f t : SignedDataElements) (bag : List CertificateElements) (c first : CertificateElements) (e : AuthenticodeError) → (NamesLifetime c → ⊥) → (NamesTimeStamping bag → ⊥) → HasToken f t
-    → (leads : LeadsStamping t first) → TellsUnlinked judge leads.bag e ⊎ (e ≡ errors.Memory) → HasBadStamp judge f bag c e ⊎ (e ≡ errors.Memory)
-told_or_memory judge f t bag c first e mortal unnamed has leads (inl tells) = inl (record {
-  mortal = mortal;
-  unnamed = unnamed;
-  t = t;
-  has = has;
-  stamping_bag = leads.bag;
-  stamping = leads.stamping;
-  cause = tells.cause;
-  unlinked = tells.unlinked;
-  told = tells.told;
-})
-told_or_memory judge f t bag c first e mortal unnamed has leads (inr memory) = inr memory
+module _ (judge : Judge) (policy : Policy) (f t : SignedDataElements) (bag : List CertificateElements) (c first : CertificateElements) (mortal : NamesLifetime c → ⊥) (unnamed : NamesTimeStamping bag → ⊥) (has : HasToken f t) (leads : LeadsStamping t first) where
+  bad : (e : AuthenticodeError) → IsFirstBroken (stamp_rules judge policy leads.bag) e → HasBadStamp judge policy f bag c e
+  bad e broken = record { mortal = mortal; unnamed = unnamed; t = t; has = has; stamping_bag = leads.bag; stamping = leads.stamping; broken = broken }
+
+  pub told_or_memory : (e : AuthenticodeError) → IsUnlinkedStamp judge leads.bag e ⊎ (e ≡ errors.Memory) → HasBadStamp judge policy f bag c e ⊎ (e ≡ errors.Memory)
+  told_or_memory e (inl tells) = inl (bad e (inl tells))
+  told_or_memory e (inr memory) = inr memory
+
+  pub unlisted_told : (e : AuthenticodeError) → IsLinkedToken judge leads.bag → IsUnlistedStamp policy leads.bag e → HasBadStamp judge policy f bag c e ⊎ (e ≡ errors.Memory)
+  unlisted_told e linked tells = inl (bad e (inr (linked_stamp_met judge leads.bag linked, inl tells)))

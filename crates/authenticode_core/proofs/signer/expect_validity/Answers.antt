@@ -11,4 +11,4 @@ returns-in-Ok g c = λ bag place is. subst (λ (checks : ChainChecks). IsWithinW
 pub returns-in-Err : goal.returns-in-Err
 returns-in-Err g c = λ bag place is.
     let breaks = subst (λ (checks : ChainChecks). Breaks (IsOutside checks.window c.args.signer.now) c.in-Err.error) c.checks-checks.ensures c.in-Err.ensures.answer in
-    c.expect_excuse.ensures c.args.policy.now bag place c.args.signer.now is c.requires breaks
+    c.expect_excuse.ensures bag place c.args.signer.now is c.requires breaks

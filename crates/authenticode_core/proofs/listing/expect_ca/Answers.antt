@@ -1,0 +1,17 @@
+use Rattle.cms_types.specs.SignedView.{data_elements}
+use Rattle.authenticode_core.proofs.CaOrder.{excluded_or_not, trusted_by, trusted_without}
+use Rattle.authenticode_core.proofs.GivenLists.{lent, none_lent}
+use Rattle.authenticode_core.proofs.listing.expect_ca.Goals as goal
+
+pub returns-in_default : goal.returns-in_default
+returns-in_default c = trusted_without c.args.policy.now (data_elements c.args.signed_data.now) (none_lent c.args.policy.now.list c.in_default.is)
+
+pub returns-in-Ok : goal.returns-in-Ok
+returns-in-Ok c =
+    let signer = c.signer_ca-ca.ensures in
+    trusted_by c.args.policy.now (data_elements c.args.signed_data.now) c.in-Some.list.now (lent c.args.policy.now.list c.in-Some.list c.in-Some.is) signer.0 signer.1 (inl (c.in-Ok.ensures signer.0 signer.2))
+
+pub returns-in-Err : goal.returns-in-Err
+returns-in-Err c =
+    let signer = c.signer_ca-ca.ensures in
+    excluded_or_not c.args.policy.now (data_elements c.args.signed_data.now) c.in-Some.list.now (lent c.args.policy.now.list c.in-Some.list c.in-Some.is) signer.0 signer.1 c.in-Err.error c.expect_excluded.result (c.in-Err.ensures signer.0 signer.2) (c.expect_excluded.ensures signer.0 signer.2)
