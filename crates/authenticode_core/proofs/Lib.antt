@@ -39,6 +39,7 @@ pub mod KeptOctets
 pub mod BasicOrder
 pub mod SignerOrder
 pub mod OneSignerRule
+pub mod CaNames
 pub mod CaOrder
 pub mod PolicyOrder
 pub mod OneAnswer

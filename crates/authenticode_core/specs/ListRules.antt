@@ -1,6 +1,6 @@
 -- What the CA of the signer has to be, where it is asked for on a trust list, rule by rule, in their
 -- order.
-use Rattle.std.specs.Prelude.{◌≡◌, ◌⊎◌, ℕ, List, [], ◌∷◌, Some, IsTrue, slice_get}
+use Rattle.std.specs.Prelude.{◌≡◌, ◌⊎◌, ℕ, List, [], ◌∷◌, Some, IsTrue}
 use Rattle.std.specs.Option.{option_copied}
 use Rattle.cms_types.specs.SignedDataElements.{SignedDataElements}
 use Rattle.der_core.specs.DerElement.{DerElement}
@@ -8,6 +8,7 @@ use Rattle.der_core.specs.Rules.{Rule, IsFirstBroken}
 use Rattle.name_types.specs.Name.{name}
 use Rattle.names_core.specs.Names.{sets_of}
 use Rattle.names_core.specs.declared.name.DirectoryName.{DirectoryName}
+use Rattle.trust_list.specs.First.{HoldsOfSome}
 use Rattle.x509_types.specs.CertificateElements.{CertificateElements}
 use Rattle.authenticode_core.specs.AuthorityName.{IsNameAt}
 use Rattle.authenticode_core.specs.IssuerWalk.{IsIssuerWalk}
@@ -31,11 +32,13 @@ pub record IsSignerCa (f : SignedDataElements) (ca : DerElement) : Type 0 where
   pub is_walk : IsIssuerWalk bag certificate walk
   pub named : IsNameAt bag walk ca
 
+-- the name is this one, by its octets
+abbrev pub IsNamed : DerElement → DirectoryName → Type 0
+IsNamed element one = IsSameElement (name (sets_of one)) element
+
 -- one of the names is this one
 abbrev pub HasName : List DirectoryName → DerElement → Type 0
-HasName names element =
-    (index : ℕ) × (one : DirectoryName) × (slice_get names index ≡ Some one)
-    × IsSameElement (name (sets_of one)) element
+HasName names element = HoldsOfSome (IsNamed element) names
 
 -- the name is excluded: whether it is on a list isn't asked
 abbrev pub IsExcluded : Policy → DerElement → Type 0

@@ -11,7 +11,7 @@ ghost use Rattle.x509_types.specs.CertificateView.{view_elements};
 ghost use Rattle.authenticode_core.specs.Inside.Form.{AreSpelled};
 ghost use Rattle.authenticode_core.specs.Inside.PolicySteps.{IsListedAt};
 ghost use Rattle.authenticode_core.specs.Inside.SigningSteps.{HasSigner, HasSignerAt};
-ghost use Rattle.authenticode_core.specs.ListRules.{HasName, HasUntrustedCa, IsExcluded, IsSignerCa, IsTrustedCaOf, ca_rules};
+ghost use Rattle.authenticode_core.specs.ListRules.{HasName, HasUntrustedCa, IsExcluded, IsNamed, IsSignerCa, IsTrustedCaOf, ca_rules};
 ghost use Rattle.authenticode_core.specs.SigningRules.{RefusesAuthenticodeBy};
 ghost use Rattle.authenticode_core.specs.TrustList.{IsOnList, name_rules};
 ghost use Rattle.authenticode_core.specs.declared.error.AuthenticodeError.TheVariants as errors;
@@ -136,9 +136,16 @@ fn is_among(names: &[DirectoryName], asked: &DirectoryName) -> bool
     ensures { IsTrue result ↔ HasName names.now (name (sets_of asked.now)) }
 {
     for one in names {
-        if *one == *asked {
+        if is_named(one, asked) {
             return true;
         }
     }
     false
+}
+
+/// Whether a name is the one that is asked for.
+fn is_named(one: &DirectoryName, asked: &DirectoryName) -> bool
+    ensures { IsTrue result ↔ IsNamed (name (sets_of asked.now)) one.now }
+{
+    *one == *asked
 }

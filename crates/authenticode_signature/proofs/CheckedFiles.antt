@@ -187,8 +187,11 @@ pub trusted : (judge : Judge) (policy : Policy) (f : SignedDataElements) (file_h
 trusted judge policy f file_hash asked vouched = record {
   basic = λ on. record { hash = file_hash; given = asked.given; place = 0; vouches = vouched; told = refl };
   signing = λ on. absurd (cc (on, asked.signing));
+  listed = λ on.
+      let s = vouched.signed in
+      record { bag = s.bag; is_bag = s.is_bag; place = 0; certificate = s.certificate; is_signer = s.is_signer; told = refl; listed = λ list some. absurd (cc (asked.listless, some)) };
   pathless = λ off. (refl, refl);
-  placeless = λ off also. absurd (cc (off, asked.basic));
+  placeless = λ off also none. absurd (cc (off, asked.basic));
 }
 
 -- ---- the file
