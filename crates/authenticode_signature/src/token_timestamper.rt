@@ -224,7 +224,7 @@ fn joined_certificates(
 }
 
 /// The list with copies of the values appended.
-fn with_copies<T: Structure>(
+pub(crate) fn with_copies<T: Structure>(
     alloc: Global,
     mut list: ListOf<T>,
     values: &[T],

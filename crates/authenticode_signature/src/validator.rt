@@ -1,6 +1,6 @@
 //! Validating owned signatures.
 
-ghost use Rattle.std.specs.Prelude.{◌≡◌, ◌++◌, true, false, Err, IfOk, OnErr, OnOk, Result, MatchResult};
+ghost use Rattle.std.specs.Prelude.{◌≡◌, true, false, Err, OnErr, OnOk, Result, MatchResult};
 ghost use Rattle.der_core.specs.Kept.{IsKept};
 ghost use Rattle.der_core.specs.Rules.{AreOneUnlessMemory, IsFirstBroken};
 ghost use Rattle.x509_core.specs.declared.window.DateCheck.TheVariants as dates;
@@ -14,6 +14,7 @@ ghost use Rattle.authenticode_signature.specs.Validator.{IsVerdict, at_dates, wi
 ghost use Rattle.authenticode_signature.specs.declared.pkcs7.Pkcs7.{Pkcs7};
 
 use crate::signature::AuthenticodeSignature;
+use crate::token_timestamper::with_copies;
 use authenticode_core::{
     Accepted, AuthenticodeError, CertificateTrustList, DateCheck, Policy, check_signed_data,
 };
@@ -216,8 +217,9 @@ impl<'a> AuthenticodeValidator<'a> {
         ensures signature { self.new.signature.now ≡ self.old.signature.now }
         ensures err { OnErr result (self.new.policy ≡ self.old.policy) }
     {
-        let excluded = joined(&self.policy.excluded, names)?;
-        self.policy.excluded = excluded;
+        let alloc = self.policy.excluded.allocator();
+        let excluded = self.policy.excluded.try_clone(alloc)?;
+        self.policy.excluded = with_copies(alloc, excluded, names)?;
         self.policy.exclude = true;
         Ok(())
     }
@@ -255,18 +257,6 @@ impl<'a> AuthenticodeValidator<'a> {
         let octets = self.signature.0.signed.to_der(alloc)?;
         check_octets(alloc, &octets, &self.policy, scheme)
     }
-}
-
-/// A copy of the names with copies of these behind them.
-fn joined(names: &NameList, more: &[DirectoryName]) -> Result<NameList, AllocError>
-    ensures { IfOk result (λ list. list ≡ names.now ++ more.now) }
-{
-    let alloc = names.allocator();
-    let mut list = names.try_clone(alloc)?;
-    for name in more {
-        list.push(name.try_clone(alloc)?)?;
-    }
-    Ok(list)
 }
 
 /// Checks the octets of signed data under a policy, in the order of `check_wincert`.
