@@ -22,3 +22,5 @@ mod signers;
 mod stamps;
 #[cfg(test)]
 mod texts;
+#[cfg(test)]
+mod trust_lists;

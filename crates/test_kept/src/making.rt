@@ -121,7 +121,7 @@ fn basic_policy(alloc: Global, hash: &[u8]) -> Result<Policy<'static>, AllocErro
     Ok(policy)
 }
 
-fn is_accepted_under(alloc: Global, file: &[u8], policy: &Policy) -> bool {
+fn is_accepted_under(alloc: Global, file: &[u8], policy: &Policy<'_>) -> bool {
     match check_made(alloc, file, policy, &DemoScheme::new()) {
         Ok(accepted) => accepted.signer == Some(0),
         Err(_) => false,
