@@ -163,6 +163,10 @@ module _ (judge : Judge) (policy : Policy) (f : SignedDataElements) where
   told_is_signers true told a v has = subst (λ (t : Option ℕ). IfSome t (HasSignerAt f)) (sym v.told) (v.signer.elements, (v.bag, v.is.is_bag, v.is.is_signer))
   told_is_signers false told a v has = subst (λ (t : Option ℕ). IfSome t (HasSignerAt f)) (sym v.0) has
 
+  pub signer_refuses : (told : Option ℕ) → IsPlaceAsked policy.basic judge given f told → (e : AuthenticodeError) → RefusesAuthenticodeBy signer_part e → RefusesAuthenticodeBy (policy_rules judge policy f) e
+  signer_refuses told at e (inl broken) = inl (broken_behind first_rules later_rules e (place_met policy.basic told at) (broken_before signer_part ca_part e broken))
+  signer_refuses told at e (inr memory) = inr memory
+
   module _ (told : Option ℕ) (a : Accepted) where
     told_there : (b : Bool) → IsSignerAsked b judge policy f told a → (place : ℕ) → IsVouchedAt judge given f place → told ≡ Some place → a.signer ≡ Some place
     told_there true v place vouched is = same_signer a v place vouched
@@ -181,10 +185,6 @@ module _ (judge : Judge) (policy : Policy) (f : SignedDataElements) where
     placeless_off false v none off = v.0 ∙ none
 
     module _ (at : IsPlaceAsked policy.basic judge given f told) where
-      pub signer_refuses : (e : AuthenticodeError) → RefusesAuthenticodeBy signer_part e → RefusesAuthenticodeBy (policy_rules judge policy f) e
-      signer_refuses e (inl broken) = inl (broken_behind first_rules later_rules e (place_met policy.basic told at) (broken_before signer_part ca_part e broken))
-      signer_refuses e (inr memory) = inr memory
-
       module _ (v : IsSignerAsked policy.signing judge policy f told a) where
         -- ---- where its CA isn't asked for
 

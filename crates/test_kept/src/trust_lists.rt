@@ -70,8 +70,8 @@ enum Outcome {
     Other,
 }
 
-fn outcome_of(result: &Result<Accepted, AuthenticodeError>) -> Outcome {
-    match result {
+fn outcome_of(answer: &Result<Accepted, AuthenticodeError>) -> Outcome {
+    match answer {
         Ok(accepted) => outcome_of_place(accepted.signer),
         Err(error) => outcome_of_error(error),
     }

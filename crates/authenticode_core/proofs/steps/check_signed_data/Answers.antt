@@ -37,7 +37,7 @@ returns-in_err-known-clause-shape g c = λ e broken.
 pub returns-in_err-accepted-clause-answer : goal.returns-in_err-accepted-clause-answer
 returns-in_err-accepted-clause-answer g c =
     let p = err_from_is_err_and c.from_residual-in_err-accepted.result c.from_residual-in_err-accepted.ensures.1 in
-    rw (p.1, p.2) (signer_refuses (g.S.Scheme.judge c.args.scheme.now) c.args.policy.now (data_elements c.args.signed_data.now) c.in_ok-known.known _ c.in_ok-known.ensures.answer c.in_err-accepted.field-0.0 c.in_err-accepted.ensures)
+    rw (p.1, p.2) (signer_refuses (g.S.Scheme.judge c.args.scheme.now) c.args.policy.now (data_elements c.args.signed_data.now) c.in_ok-known.known c.in_ok-known.ensures.answer c.in_err-accepted.field-0.0 c.in_err-accepted.ensures)
 
 pub returns-in_err-accepted-clause-shape : goal.returns-in_err-accepted-clause-shape
 returns-in_err-accepted-clause-shape g c = λ e broken. absurd (no_refusal c.in_ok-known.known e (c.in_ok-known.ensures.shape e broken))
