@@ -1,4 +1,4 @@
--- Names of CAs that are excluded, by their octets.
+-- Names of CAs that are excluded, compared as octets.
 use Rattle.std.proofs.Common.{◌≡◌, ◌↔◌, ℕ, List, Bool, IsTrue, sym, ap, ◌∙◌}
 use Rattle.der_core.specs.DerElement.{DerElement}
 use Rattle.der_core.specs.Encoding.{encoding}

@@ -1,4 +1,5 @@
--- The rules of the CA of the signer: what meets them, that each is told once, and which is broken first.
+-- The rules for the CA of the signer: what meets them, that each reports one error, and which is broken
+-- first.
 use Rattle.std.proofs.Common.{◌≡◌, ◌⊎◌, ℕ, List, [], ◌∷◌, Option, Some, None, Result, Ok, Err, MatchResult, inl, inr, refl, sym, ap, subst, ◌∙◌}
 use Rattle.std.specs.Option.{option_copied}
 use Rattle.cms_types.specs.SignedDataElements.{SignedDataElements}
@@ -28,7 +29,7 @@ use Rattle.authenticode_core.proofs.OneCa.{ca_once}
 use Rattle.authenticode_core.proofs.OneSignerRule.{key_name_once, unknown_name_once}
 use Rattle.authenticode_core.proofs.SignerOrder.{first_met, key_name_met, named_met, named_rules}
 
--- ---- the certificate of a signer stands on its own walk
+-- ---- the certificate of a signer is on its own walk
 
 pub walk_is_some : (f : SignedDataElements) (place : ℕ) (c : CertificateElements) (s : HasSigner f place c) (walk : List ℕ) → IsIssuerWalk s.0 c walk → walk ≡ [] → ⊥
 walk_is_some f place c s [] none e = none place c s.2.later s.2.stands refl
@@ -63,7 +64,7 @@ module _ (policy : Policy) (f : SignedDataElements) where
   untrusted_once = λ a b p q.
       off_once q.0 a b (subst (λ (list : CertificateTrustList). IsOffList policy f list a) (given_once given p.0 q.0 p.1 q.1) p.2) q.2
 
-  -- ---- each is told once
+  -- ---- each reports one error
 
   pub ca_told : AreToldOnce (ca_rules policy f)
   ca_told = (λ a b p q. p.1 ∙ sym q.1, (key_name_once f, (unknown_name_once f, (untrusted_once, tt))))

@@ -1,4 +1,4 @@
--- The trust list of a policy, where there is one.
+-- The trust list of a policy, if there is one.
 use Rattle.std.proofs.Common.{◌≡◌, Option, Some, None, sym, ap, ◌∙◌}
 use Rattle.std.specs.Borrow.{Bor}
 use Rattle.std.specs.Option.{option_copied}
@@ -13,7 +13,7 @@ given_once o a b p q = one_given a b (sym p ∙ q)
 pub none_given : (o : Option CertificateTrustList) (a : CertificateTrustList) → o ≡ None → o ≡ Some a → ⊥
 none_given o a none some = absurd (cc (none, some))
 
--- as a policy lends it
+-- as a policy borrows it
 pub lent : (o : Option (Bor CertificateTrustList)) (list : Bor CertificateTrustList) → o ≡ Some list → option_copied o ≡ Some list.now
 lent o list is = ap option_copied is
 

@@ -25,9 +25,9 @@ pub unknown_is_none : (c : CertificateElements) → IsOfType c types.Unknown →
 unknown_is_none c unknown name (inl (intermediate, is)) = unknown true intermediate.0
 unknown_is_none c unknown name (inr (root, is)) = unknown true root.0
 
--- ---- the name after certificates is that of the last authority
+-- ---- the name after certificates is that of the last CA certificate
 
--- the name is that of the last authority of these, or where there is none, the one before them
+-- the name is that of the last CA certificate of these, or without one, the name before them
 abbrev IsLastOr : DerElement → List CertificateElements → DerElement → Type 0
 IsLastOr name certificates after = IsLastAuthority certificates after ⊎ (NoneIsAuthority certificates × (after ≡ name))
 
@@ -45,7 +45,7 @@ after_is bag name after (place ∷ places) walked =
 
 -- ---- walked from the first
 
--- the name so far, and the places behind
+-- the name so far, and the indexes after it
 pub record NamedSoFar (bag : List CertificateElements) (before : DerElement) (places : List ℕ) (source : Source) (octets : List ℕ) : Type 0 where
   pub behind : List ℕ
   pub gives : GivesPlaces source bag behind

@@ -1,4 +1,4 @@
--- The name of a CA is on a list, or breaks a rule that is told once.
+-- The name of a CA is on a list, or breaks a rule that reports one error.
 use Rattle.std.proofs.Common.{◌≡◌, ℤ, List, Option, Some, None, inl, inr, refl, sym, ap, subst, ◌∙◌}
 use Rattle.cms_content.specs.ContentValue.{kind_of_content}
 use Rattle.cms_content.specs.declared.content_value.ContentValue.{ContentValue}
@@ -43,7 +43,7 @@ module _ (list : CertificateTrustList) where
   content_told : AreToldOnce (content_rules list)
   content_told = (λ a b p q. p.1 ∙ sym q.1, (λ a b p q. p.3 ∙ sym q.3, tt))
 
-  -- what is told of the content is no want of memory
+  -- the error for the content isn't out of memory
   told_so : (e : CtlError) → IsFirstBroken (content_rules list) e → of_ctl e ≡ errors.CtlError e
   told_so e (inl p) = ap of_ctl p.1 ∙ sym (ap errors.CtlError p.1)
   told_so e (inr (met, inl p)) = ap of_ctl p.3 ∙ sym (ap errors.CtlError p.3)

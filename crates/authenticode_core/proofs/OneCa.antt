@@ -17,7 +17,7 @@ same_head c d a b e = cc
 same_tail : (c d : CertificateElements) (a b : List CertificateElements) → c ∷ a ≡ d ∷ b → a ≡ b
 same_tail c d a b e = cc
 
--- ---- the last authority is one
+-- ---- one last CA certificate
 
 named_once : (c : CertificateElements) (a b : DerElement) → HasAuthorityName c a → HasAuthorityName c b → a ≡ b
 named_once c a b (inl p) (inl q) = p.1 ∙ sym q.1

@@ -80,7 +80,7 @@ linked_token_is_not_broken judge bag e p q =
     let places = same_places bag q.first p.first q.places p.places first q.others p.others in
     linked_is_not_broken judge any_time bag p.first p.places e p.linked (moved judge bag q.first p.first q.places p.places e first places q.unlinked)
 
--- the CA of a token's bag is on the list, or is told of once
+-- the CA of a token's bag is on the list, or has one refusal
 unlisted_stamp_once : (policy : Policy) (bag : List CertificateElements) → IsToldOnce (IsUnlistedStamp policy bag)
 unlisted_stamp_once policy bag = λ a b p q.
     let list = given_once (option_copied policy.list) p.0 q.0 p.1 q.1 in

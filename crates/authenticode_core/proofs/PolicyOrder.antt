@@ -143,7 +143,7 @@ module _ (judge : Judge) (policy : Policy) (f : SignedDataElements) where
   abbrev accepted_with : Option ℕ → List ℕ → Accepted
   accepted_with told path = record { signer = told; path = path; excuse = excuses.None }
 
-  -- ---- where the certificate of the signer is asked for, and where it isn't
+  -- ---- if the signer's certificate is checked, and if it isn't
 
   pub signer_on : (b : Bool) (told : Option ℕ) (r : Result Accepted AuthenticodeError) → b ≡ true → MatchResult r (IsSignerVouched judge policy f) (RefusesAuthenticodeBy (signer_rules judge policy f))
       → MatchResult r (IsSignerAsked b judge policy f told) (RefusesAuthenticodeBy (asked b (signer_rules judge policy f)))
@@ -158,7 +158,7 @@ module _ (judge : Judge) (policy : Policy) (f : SignedDataElements) where
   signer_part_met true told a v = signer_met judge policy f a v
   signer_part_met false told a v = tt
 
-  -- the place that is told is that of the signer's certificate
+  -- the reported index is that of the signer's certificate
   pub told_is_signers : (b : Bool) (told : Option ℕ) (a : Accepted) → IsSignerAsked b judge policy f told a → IfSome told (HasSignerAt f) → IfSome a.signer (HasSignerAt f)
   told_is_signers true told a v has = subst (λ (t : Option ℕ). IfSome t (HasSignerAt f)) (sym v.told) (v.signer.elements, (v.bag, v.is.is_bag, v.is.is_signer))
   told_is_signers false told a v has = subst (λ (t : Option ℕ). IfSome t (HasSignerAt f)) (sym v.0) has
@@ -186,7 +186,7 @@ module _ (judge : Judge) (policy : Policy) (f : SignedDataElements) where
 
     module _ (at : IsPlaceAsked policy.basic judge given f told) where
       module _ (v : IsSignerAsked policy.signing judge policy f told a) where
-        -- ---- where its CA isn't asked for
+        -- ---- if its CA isn't checked
 
         pub without_list : policy.against_list ≡ false → IsTrusted judge policy f a
         without_list off = record {
@@ -197,7 +197,7 @@ module _ (judge : Judge) (policy : Policy) (f : SignedDataElements) where
           placeless = λ basic signing none. placeless_off policy.signing v (unplaced policy.basic told at basic) signing;
         }
 
-        -- ---- and where it is
+        -- ---- and if it is
 
         pub ca_refuses : (e : AuthenticodeError) → policy.against_list ≡ true → RefusesAuthenticodeBy (ca_rules policy f) e → RefusesAuthenticodeBy (policy_rules judge policy f) e
         ca_refuses e on (inl broken) =

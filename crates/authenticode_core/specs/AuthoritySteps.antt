@@ -9,7 +9,7 @@ use Rattle.authenticode_core.specs.Places.{StandsAt}
 abbrev pub IsNextName : DerElement → CertificateElements → DerElement → Type 0
 IsNextName name c next = HasAuthorityName c next ⊎ (IsNoAuthority c × (next ≡ name))
 
--- the name after the certificates at these places
+-- the name after the certificates at these indexes
 abbrev pub IsNameAfter : List CertificateElements → DerElement → List ℕ → DerElement → Type 0
 IsNameAfter bag name [] after = after ≡ name
 IsNameAfter bag name (place ∷ places) after =

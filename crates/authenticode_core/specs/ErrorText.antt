@@ -52,7 +52,7 @@ timestamp_error_text (stamps.Asn1DerError e) = cert_error_text e
 timestamp_error_text stamps.TimestampTokenEmpty = codes "the token or the signed data has no signer"
 timestamp_error_text stamps.Memory = codes "out of memory"
 
--- why octets aren't read as a trust list, or a CA isn't looked up on one
+-- why octets aren't read as a trust list, or have no entries that can be used
 abbrev pub ctl_error_text : CtlError → List ℕ
 ctl_error_text (ctl.FailedToParseCtl e) = pkcs7_error_text e
 ctl_error_text ctl.NoContent = codes "the trust list has no content"

@@ -24,7 +24,7 @@ pub mod PlainForm
 pub mod PlainFields
 pub mod Asn1
 -- Rules, in the order of the check: form, digest and signature, signer, path, trust list, excuse, and
--- the signer's CA.
+-- the CA of the signer.
 pub mod FormRules
 pub mod SigningRules
 pub mod SignerRules

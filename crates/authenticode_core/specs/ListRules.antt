@@ -1,5 +1,5 @@
--- What the CA of the signer has to be, where it is asked for on a trust list, rule by rule, in their
--- order.
+-- The rules for the CA of the signer, in their order: it is on the trust list of the policy, or
+-- excluded.
 use Rattle.std.specs.Prelude.{◌≡◌, ◌⊎◌, ℕ, List, [], ◌∷◌, Some, IsTrue}
 use Rattle.std.specs.Option.{option_copied}
 use Rattle.cms_types.specs.SignedDataElements.{SignedDataElements}
@@ -32,15 +32,15 @@ pub record IsSignerCa (f : SignedDataElements) (ca : DerElement) : Type 0 where
   pub is_walk : IsIssuerWalk bag certificate walk
   pub named : IsNameAt bag walk ca
 
--- the name is this one, by its octets
+-- the name has the same encoding
 abbrev pub IsNamed : DerElement → DirectoryName → Type 0
 IsNamed element one = IsSameElement (name (sets_of one)) element
 
--- one of the names is this one
+-- one of the names has this encoding
 abbrev pub HasName : List DirectoryName → DerElement → Type 0
 HasName names element = HoldsOfSome (IsNamed element) names
 
--- the name is excluded: whether it is on a list isn't asked
+-- the name is excluded: it needn't be on the list
 abbrev pub IsExcluded : Policy → DerElement → Type 0
 IsExcluded policy ca = IsTrue policy.exclude × HasName policy.excluded ca
 
@@ -49,14 +49,14 @@ abbrev pub IsTrustedCa : Policy → SignedDataElements → CertificateTrustList 
 IsTrustedCa policy f list =
     (ca : DerElement) × IsSignerCa f ca × (IsOnList list policy.now ca ⊎ IsExcluded policy ca)
 
--- where the policy has a list, the CA of the signer is trusted by it
+-- if the policy has a list, the CA of the signer is on it, or excluded
 abbrev pub IsTrustedCaOf : Policy → SignedDataElements → Type 0
 IsTrustedCaOf policy f =
     (list : CertificateTrustList) → option_copied policy.list ≡ Some list
     → IsTrustedCa policy f list
 
--- The certificate of the first signer stands at the place that is told, and its CA is trusted by the
--- list of the policy, where there is one.
+-- The reported index is that of the certificate of the first signer, and its CA is on the list of the
+-- policy, if there is one, or excluded.
 pub record IsSignerListed (policy : Policy) (f : SignedDataElements) (a : Accepted) : Type 0 where
   pub bag : List CertificateElements
   pub is_bag : IsBagOf f bag
@@ -74,13 +74,13 @@ IsOffList policy f list e =
     (ca : DerElement) × IsSignerCa f ca × (IsExcluded policy ca → ⊥)
     × IsFirstBroken (name_rules list policy.now ca) e
 
--- the policy has a list, and the CA of the signer isn't trusted by it
+-- the policy has a list, and the CA of the signer is neither on it nor excluded
 abbrev pub HasUntrustedCa : Policy → SignedDataElements → Rule AuthenticodeError
 HasUntrustedCa policy f e =
     (list : CertificateTrustList) × (option_copied policy.list ≡ Some list)
     × IsOffList policy f list e
 
--- The rules of the CA of a signer, in their order.
+-- The rules for the CA of the signer, in their order.
 abbrev pub ca_rules : Policy → SignedDataElements → List (Rule AuthenticodeError)
 ca_rules policy f =
     LacksSigner f ∷ HasKeyName f ∷ HasUnknownName f ∷ HasUntrustedCa policy f ∷ []

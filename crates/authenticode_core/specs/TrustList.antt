@@ -1,5 +1,5 @@
--- Trust lists: what their entries are, when the name of a CA is on one, and what is told where it
--- isn't (Microsoft, wincrypt.h).
+-- Trust lists: their entries, when the name of a CA is on one, and the refusal if it isn't
+-- (Microsoft, wincrypt.h).
 use Rattle.std.specs.Prelude.{◌≡◌, ◌≢◌, ℕ, ℤ, List, [], ◌∷◌, Option, Some, None}
 use Rattle.std.specs.Option.{option_copied}
 use Rattle.cms_content.specs.ContentValue.{kind_of_content}
@@ -30,17 +30,17 @@ use Rattle.authenticode_core.specs.declared.policy.Policy.{Policy}
 
 -- ---- lists
 
--- the element is that of signed data with its type
+-- the element is a ContentInfo of signed data (RFC 5652 3)
 abbrev pub IsSignedData : DerElement → Pkcs7Certificate → Type 0
 IsSignedData element value = element ≡ pkcs7 value
 
--- why octets aren't read as a list, by why they aren't read as signed data
+-- why octets aren't read as a list, from why they aren't read as signed data
 abbrev pub unread_list : DerError → CtlError
 unread_list der.Memory = ctl.Memory
 unread_list source =
     ctl.FailedToParseCtl (signed.Cert (certs.Asn1Deserialization structures.Pkcs7 source))
 
--- the content, where it isn't left out
+-- the content, if there is one
 abbrev pub content_of : CertificateTrustList → Option ContentValue
 content_of list = list.signed.signed_data.content_info.content
 
@@ -50,7 +50,7 @@ HasEntries list entries =
     (content : Ctl) × (content_of list ≡ Some (contents.CertificateTrustList content))
     × (entries ≡ content.entries)
 
--- the content is left out
+-- there is no content
 abbrev pub HasNoContent : CertificateTrustList → Rule CtlError
 HasNoContent list e = (content_of list ≡ None) × (e ≡ ctl.NoContent)
 
@@ -71,7 +71,7 @@ abbrev pub IsOnList : CertificateTrustList → ℤ → DerElement → Type 0
 IsOnList list now name =
     (entries : List CTLEntry) × HasEntries list entries × IsListed entries (encoding name) now
 
--- where the policy has a list, the name is on it
+-- if the policy has a list, the name is on it
 abbrev pub IsOnListOf : Policy → DerElement → Type 0
 IsOnListOf policy name =
     (list : CertificateTrustList) → option_copied policy.list ≡ Some list

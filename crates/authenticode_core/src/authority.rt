@@ -13,9 +13,9 @@ use crate::path::others::Source;
 use x509_core::CertType;
 use x509_types::CertView;
 
-/// The name of the CA of certificates in their order, by its octets: that of the last authority of
-/// all but the first of them, or the issuer of the first; None exactly where there are none. It
-/// takes no memory.
+/// The name of the CA of certificates in their order, as octets: that of the last CA certificate
+/// after the first of them, or without one the issuer of the first; None exactly if there are no
+/// certificates. It doesn't allocate.
 pub(crate) fn authority_name<'a>(mut certificates: Source<'a>) -> Option<&'a [u8]>
     ensures { (bag : List CertificateElements) (places : List ℕ)
         → GivesPlaces certificates.entry bag places
@@ -27,7 +27,7 @@ pub(crate) fn authority_name<'a>(mut certificates: Source<'a>) -> Option<&'a [u8
     Some(last_name(certificates, first.certificate.issuer()))
 }
 
-/// The name after further certificates, where this is the one before them.
+/// The name after further certificates, given the one before them.
 fn last_name<'a>(mut certificates: Source<'a>, name: &'a [u8]) -> &'a [u8]
     ensures { (bag : List CertificateElements) (places : List ℕ) (before : DerElement)
         → GivesPlaces certificates.entry bag places → name.now ≡ encoding before
@@ -41,8 +41,8 @@ fn last_name<'a>(mut certificates: Source<'a>, name: &'a [u8]) -> &'a [u8]
     last
 }
 
-/// The name after a certificate: an intermediate's issuer, a root's subject, and else the name
-/// before it.
+/// The name after a certificate: an intermediate's issuer, a root's subject, else the name before
+/// it.
 fn next_name<'a>(name: &'a [u8], certificate: CertView<'a>) -> &'a [u8]
     ensures { (before : DerElement) → name.now ≡ encoding before
         → (after : DerElement) × IsNextName before (view_elements certificate.entry) after

@@ -21,8 +21,8 @@ use key_core::Element;
 use std::alloc::{AllocError, Global};
 use x509_core::CertError;
 
-/// A trust list: signed data whose content is one, or isn't (Microsoft, wincrypt.h: CTL_INFO). Who
-/// signed it isn't checked.
+/// A trust list: signed data, whose content `ctl_entries` checks to be one (Microsoft, wincrypt.h:
+/// CTL_INFO). Its own signature isn't verified.
 #[derive(Debug)]
 pub struct CertificateTrustList {
     signed: Pkcs7Certificate,
@@ -37,7 +37,7 @@ impl Drop for CertificateTrustList {
 }
 
 impl CertificateTrustList {
-    /// The trust list that signed data is: a `Pkcs7`, or its structure.
+    /// Signed data as a trust list: a `Pkcs7`, or its structure.
     pub fn from_pkcs7<P: Into<Pkcs7Certificate>>(pkcs7: P) -> CertificateTrustList
         ensures { P.converts pkcs7 result.signed }
     {
@@ -46,8 +46,8 @@ impl CertificateTrustList {
         }
     }
 
-    /// Reads a trust list from exactly its octets, as signed data with its type is read (RFC 5652
-    /// 3). Whether its content is a trust list is asked by `ctl_entries`.
+    /// Reads a trust list from exactly its octets, a ContentInfo of signed data (RFC 5652 3).
+    /// Whether its content is a trust list isn't checked here.
     pub fn from_der(alloc: Global, der: &[u8]) -> Result<CertificateTrustList, CtlError>
         ensures answer { MatchResult result
             (λ list. IsWithin IsSignedData der.now list.signed)
@@ -56,7 +56,7 @@ impl CertificateTrustList {
         ensures faulty { (at : ℕ) (fault : DerFault) → IsExactFault der.now at fault
             → result
             ≡ Err (unread_list (der_errors.Malformed (record { at = at; fault = fault }))) }
-        // An element that is no signed data is refused as such, even when memory runs out.
+        // An element that isn't signed data is refused with `Shape`, even when memory runs out.
         ensures shapeless { (element : DerElement) → IsDer element → der.now ≡ encoding element
             → ((value : Pkcs7Certificate) → element ≢ pkcs7 value)
             → result ≡ Err (unread_list der_errors.Shape) }
@@ -67,7 +67,7 @@ impl CertificateTrustList {
         }
     }
 
-    /// The entries of the list, in order, where its content is a trust list.
+    /// The entries of the list, in order, if its content is a trust list.
     pub fn ctl_entries(&self) -> Result<&[CTLEntry], CtlError>
         ensures { MatchResult result (λ entries. HasEntries self.now entries.now)
             (IsFirstBroken (content_rules self.now)) }

@@ -1,4 +1,4 @@
-//! Why a trust list isn't read, or an entry of it isn't one.
+//! Why octets aren't read as a trust list, or have no entries that can be used.
 
 ghost use Rattle.std.specs.Prelude.{◌≡◌, IfOk, Some, string_bytes};
 ghost use Rattle.authenticode_core.specs.ErrorText.{ctl_error_text};
@@ -8,18 +8,19 @@ use crate::pkcs7_error::Pkcs7Error;
 use std::fmt::{self, Display};
 use thiserror::Error;
 
-/// Why a trust list isn't read, or an entry of it isn't one.
+/// Why octets aren't read as a trust list, or have no entries that can be used.
 #[derive(Debug, Drop, Error)]
 pub enum CtlError {
-    /// The octets are no signed data. Never with want of memory.
+    /// The octets aren't signed data. Never wraps out of memory.
     FailedToParseCtl(Pkcs7Error),
-    /// The content of the signed data is left out.
+    /// The signed data has no content.
     NoContent,
-    /// It isn't a trust list.
+    /// The content isn't a trust list.
     IncorrectContentValue,
-    /// An attribute of the entry that counts has no value, or a value that is no time.
+    /// The CA's entry has a not-after time without a value, or a not-before time without one or with
+    /// one that is too short.
     MalformedEntry,
-    /// No memory was left.
+    /// Out of memory.
     Memory,
 }
 

@@ -82,19 +82,18 @@ pub enum AuthenticodeError {
     /// The signer's certificate has expired, and the first certificate of the token that would
     /// excuse it isn't linked to the others. Never wraps `Memory`.
     InvalidTimestampCert(CertError),
-    /// The trust list isn't one, or its entry for the CA is malformed. Never with want of memory.
+    /// The list isn't a trust list, or its entry for the CA is malformed. Never wraps `Memory`.
     CtlError(CtlError),
-    /// The CA of the signer, or that of the token that would excuse its expiry, isn't on the trust
-    /// list.
+    /// The CA of the signer, or of the token that would excuse its expiry, isn't on the trust list.
     CAIsNotTrusted,
-    /// The trust list has revoked it.
+    /// The trust list revokes it.
     CaCertificateRevoked,
-    /// The trust list had it until then. Both in whole seconds since 1601-01-01, UTC.
+    /// The trust list has it until `not_after`. Both in whole seconds since 1601-01-01, UTC.
     CaCertificateExpired {
         not_after: i64,
         now: i64,
     },
-    /// The trust list has it from then on. Both in whole seconds since 1601-01-01, UTC.
+    /// The trust list has it from `not_before` on. Both in whole seconds since 1601-01-01, UTC.
     CaCertificateNotYetValid {
         not_before: i64,
         now: i64,
@@ -482,7 +481,7 @@ impl From<CharSetError> for AuthenticodeError {
     }
 }
 
-/// Want of memory is told as such.
+/// Out of memory becomes `Memory`.
 impl From<CtlError> for AuthenticodeError {
     ghost from_gives = { λ error e. e ≡ of_ctl error };
 

@@ -114,7 +114,7 @@ fn expect_linked<S: Scheme>(
     }
 }
 
-/// Where the policy has a list, the CA of the certificates of a token is on it. It takes no memory.
+/// If the policy has a list, the CA of the certificates of a token is on it. It doesn't allocate.
 fn expect_listed_token(token: &SignedView<'_>, policy: &Policy<'_>) -> Result<(), AuthenticodeError>
     requires { (bag : List CertificateElements) × IsForStamping (data_elements token.now) bag }
     ensures { (bag : List CertificateElements) → IsBagOf (data_elements token.now) bag

@@ -30,10 +30,10 @@ use std::alloc::{AllocError, Global};
 use trust_list::expect_listed;
 use x509_types::CertView;
 
-/// The CA of the first signer is trusted by the list of a policy: the place of the certificate of
-/// this signer. The first of these is answered that doesn't hold: there is a signer; some
-/// certificate is named; where the policy has a list, the CA of its issuer walk is on it, or
-/// excluded. The place of the certificate may be known.
+/// Checks the CA of the first signer against the list of a policy, and returns the index of the
+/// certificate of this signer. The first of these that fails is returned: there is a signer; it is
+/// named by issuer and serial number, and a certificate has them; if the policy has a list, the CA
+/// of the issuer walk is on it, or excluded. The index of the certificate may be known.
 pub(crate) fn expect_listed_signer(
     alloc: Global,
     signed_data: &SignedView<'_>,
@@ -51,8 +51,8 @@ pub(crate) fn expect_listed_signer(
     Ok(named.place)
 }
 
-/// Where the policy has a list, the CA of the signer is on it, or excluded. Which names are
-/// excluded is asked last.
+/// If the policy has a list, the CA of the signer is on it, or excluded. The excluded names are
+/// compared last, since that allocates.
 fn expect_ca(
     alloc: Global,
     signed_data: &SignedView<'_>,
@@ -74,7 +74,7 @@ fn expect_ca(
     }
 }
 
-/// The name of the CA of the signer, by its octets. It takes no memory.
+/// The name of the CA of the signer, as octets. It doesn't allocate.
 fn signer_ca<'a>(signed_data: &SignedView<'a>, signer: &CertView<'a>) -> &'a [u8]
     requires { (place : ℕ) × HasSigner (data_elements signed_data.now) place
         (view_elements signer.now) }
@@ -87,7 +87,7 @@ fn signer_ca<'a>(signed_data: &SignedView<'a>, signer: &CertView<'a>) -> &'a [u8
     }
 }
 
-/// The name of a CA, by its octets, is on a list at a time. It takes no memory.
+/// The name of a CA, given as octets, is on a list at a time. It doesn't allocate.
 pub(crate) fn expect_on_list(
     list: &CertificateTrustList,
     name: &[u8],
@@ -102,7 +102,7 @@ pub(crate) fn expect_on_list(
     Ok(())
 }
 
-/// The name of a CA, by its octets, is an excluded one; else this error is answered.
+/// The name of a CA, given as octets, is an excluded one; else this error is returned.
 fn expect_excluded(
     alloc: Global,
     name: &[u8],
@@ -119,8 +119,8 @@ fn expect_excluded(
     Err(error)
 }
 
-/// Whether one of the names is this one, by its octets. It is known to be a name, so it is refused
-/// for want of memory alone.
+/// Whether one of the names is this one, given as octets. They are known to encode a name, so that
+/// reading them fails only if memory runs out.
 fn has_name(alloc: Global, names: &[DirectoryName], name: &[u8]) -> Result<bool, AllocError>
     ensures { (element : DerElement) → name.now ≡ encoding element
         → IfOk result (λ told. IsTrue told ↔ HasName names.now element) }
@@ -143,7 +143,7 @@ fn is_among(names: &[DirectoryName], asked: &DirectoryName) -> bool
     false
 }
 
-/// Whether a name is the one that is asked for.
+/// Whether a name is this one.
 fn is_named(one: &DirectoryName, asked: &DirectoryName) -> bool
     ensures { IsTrue result ↔ IsNamed (name (sets_of asked.now)) one.now }
 {

@@ -29,16 +29,16 @@ pub struct Policy<'a> {
     pub chain: bool,
     /// The date or interval for which certificates must be valid.
     pub date: DateCheck,
-    /// Whether the CA of the signer has to be on the trust list, where one is given, or excluded.
+    /// Whether the CA of the signer must be on the trust list, if there is one, or excluded.
     pub against_list: bool,
-    /// The trust list. The CA of a token that excuses an expiry has to be on it whatever
+    /// The trust list. The CA of a token that excuses an expiry must be on it whatever
     /// `against_list` says.
     pub list: Option<&'a CertificateTrustList>,
-    /// The moment at which it has to be on the list, in whole seconds since 1601-01-01, UTC.
+    /// The time at which CAs must be on the list, in whole seconds since 1601-01-01, UTC.
     pub now: i64,
-    /// Whether the CA of the signer may be an excluded one.
+    /// Whether the CA of the signer may have an excluded name instead.
     pub exclude: bool,
-    /// The names of CAs of which it isn't asked that they are on the list.
+    /// The names of CAs that needn't be on the list.
     pub excluded: NameList,
 }
 

@@ -83,7 +83,7 @@ pub fn check_signed_data<S: Scheme>(
     Ok(accepted.at(place))
 }
 
-/// The certificate of the signer, where it is asked for; else its place, where this is known.
+/// The result for the signer's certificate, if it is checked; else its index, if that is known.
 fn asked_signer<S: Scheme>(
     alloc: Global,
     signed_data: &SignedView<'_>,

@@ -35,19 +35,19 @@ IsPlaceAsked true judge file_hash f told =
     (place : ℕ) × IsVouchedAt judge file_hash f place × (told ≡ Some place)
 IsPlaceAsked false judge file_hash f told = told ≡ None
 
--- where the certificate of the signer is asked for, it is vouched for; else its place is told, where
--- it is known, and no path and no excuse
+-- if the signer's certificate is checked, it is vouched for; else its index is reported, if it is
+-- known, with no path and no excuse
 abbrev pub IsSignerAsked : Bool → Judge → Policy → SignedDataElements → Option ℕ → Accepted → Type 0
 IsSignerAsked true judge policy f known a = IsSignerVouched judge policy f a
 IsSignerAsked false judge policy f known a =
     (a.signer ≡ known) × (a.path ≡ []) × (a.excuse ≡ excuses.None)
 
--- the certificate of the first signer stands at this place, and its CA is trusted by the list of the
--- policy, where there is one
+-- the certificate of the first signer is at this index, and its CA is on the list of the policy, if
+-- there is one, or excluded
 abbrev pub IsListedAt : Policy → SignedDataElements → ℕ → Type 0
 IsListedAt policy f place = HasSignerAt f place × IsTrustedCaOf policy f
 
--- the same is told, with this place
+-- the same is reported, with this index
 abbrev pub at_place : Accepted → ℕ → Accepted
 at_place a place = record a { signer = Some place }
 
