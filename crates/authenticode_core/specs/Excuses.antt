@@ -90,13 +90,6 @@ pub record IsLinkedToken (judge : Judge) (bag : List CertificateElements) : Type
   pub others : AreOthersThan bag first.elements places
   pub linked : AreLinkedAt judge any_time bag first places
 
--- if the policy has a list, the CA of the certificates of the bag is on it
-abbrev pub IsListedToken : Policy → List CertificateElements → Type 0
-IsListedToken policy bag =
-    (list : CertificateTrustList) → option_copied policy.list ≡ Some list
-    → (ca : DerElement) × IsNameAt bag (places_from 0 (length bag)) ca
-    × IsOnList list policy.now ca
-
 -- The first certificate of the bag isn't linked to these.
 pub record IsUnlinkedToken (judge : Judge) (bag : List CertificateElements)
     (e : CertError) : Type 0 where
@@ -105,6 +98,13 @@ pub record IsUnlinkedToken (judge : Judge) (bag : List CertificateElements)
   pub places : List ℕ
   pub others : AreOthersThan bag first.elements places
   pub unlinked : IsUnlinkedAt judge any_time bag first places e
+
+-- if the policy has a list, the CA of the certificates of the bag is on it
+abbrev pub IsListedToken : Policy → List CertificateElements → Type 0
+IsListedToken policy bag =
+    (list : CertificateTrustList) → option_copied policy.list ≡ Some list
+    → (ca : DerElement) × IsNameAt bag (places_from 0 (length bag)) ca
+    × IsOnList list policy.now ca
 
 -- ---- rules of a token's bag, by what breaks them
 
@@ -139,7 +139,7 @@ pub record IsStamped (judge : Judge) (policy : Policy) (f : SignedDataElements) 
 -- There is this reason to excuse the expiry: the certificate doesn't have the extended key usage
 -- lifetime signing, and some certificate of the bag has time stamping; or none of the bag does, and
 -- the signature has a token with such a certificate, whose first certificate is linked to the
--- others.
+-- others, and whose CA is on the list of the policy, if there is one.
 abbrev pub HasReason : Judge → Policy → SignedDataElements → List CertificateElements
     → CertificateElements → Excuse → Type 0
 HasReason judge policy f bag c excuses.None = ⊥
