@@ -96,7 +96,7 @@ module _ (policy : Policy) (f : SignedDataElements) where
     trusted_by so = λ other given_too. (ca, signer, subst (λ (l : CertificateTrustList). IsOnList l policy.now ca ⊎ IsExcluded policy ca) (given_once given list other is given_too) so)
 
     pub untrusted_by : (e other : AuthenticodeError) → IsFirstBroken (name_rules list policy.now ca) e → ((other ≡ e) × (IsExcluded policy ca → ⊥)) ⊎ (other ≡ errors.Memory) → HasUntrustedCa policy f other ⊎ (other ≡ errors.Memory)
-    untrusted_by e other broken (inl (same, none)) = inl (list, is, ca, signer, none, subst (λ (x : AuthenticodeError). IsFirstBroken (name_rules list policy.now ca) x) (sym same) broken)
+    untrusted_by e other broken (inl (same, none)) = inl (list, is, (ca, signer, none, subst (λ (x : AuthenticodeError). IsFirstBroken (name_rules list policy.now ca) x) (sym same) broken))
     untrusted_by e other broken (inr memory) = inr memory
 
     pub excluded_or_not : {X : Type 0} (error : AuthenticodeError) (r : Result X AuthenticodeError) → IsFirstBroken (name_rules list policy.now ca) error

@@ -47,7 +47,7 @@ module _ (list : CertificateTrustList) where
   told_so : (e : CtlError) → IsFirstBroken (content_rules list) e → of_ctl e ≡ errors.CtlError e
   told_so e (inl p) = ap of_ctl p.1 ∙ sym (ap errors.CtlError p.1)
   told_so e (inr (met, inl p)) = ap of_ctl p.3 ∙ sym (ap errors.CtlError p.3)
-  told_so e (inr (met, inr none)) = absurd none
+  told_so e (inr (met, inr none)) = absurd none.1
 
   -- ---- names
 

@@ -61,7 +61,7 @@ some_signers signers others first is none =
 pub first_met : (f : SignedDataElements) (g : SignerElements) → IsFirstSigner f g → IsMet (LacksSigner f)
 first_met f g first = λ e broken. some_signers (signers_of f) first.others _ first.first broken.0
 
-key_name_met : (f : SignedDataElements) (g : SignerElements) → IsFirstSigner f g → IsMet (IsNamedByKey g) → IsMet (HasKeyName f)
+pub key_name_met : (f : SignedDataElements) (g : SignerElements) → IsFirstSigner f g → IsMet (IsNamedByKey g) → IsMet (HasKeyName f)
 key_name_met f g first met = λ e broken. met e (subst (λ (x : SignerElements). IsNamedByKey x e) (first_once f broken.0 g broken.1 first) broken.2)
 
 abbrev pub named_rules : SignedDataElements → List (Rule AuthenticodeError)

@@ -68,8 +68,8 @@ asked false rules = []
 abbrev pub policy_rules : Judge → Policy → SignedDataElements → List (Rule AuthenticodeError)
 policy_rules judge policy f =
     asked policy.basic (basic_rules judge f policy.file_hash)
-    ++ asked policy.signing (signer_rules judge policy f)
-    ++ asked policy.against_list (ca_rules policy f)
+    ++ (asked policy.signing (signer_rules judge policy f)
+    ++ asked policy.against_list (ca_rules policy f))
 
 -- ---- results
 

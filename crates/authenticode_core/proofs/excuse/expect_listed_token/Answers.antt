@@ -1,6 +1,9 @@
+use Rattle.std.proofs.Common.{◌≡◌, ℤ, MatchResult, arith, length, of_z, subst, to_z, w64}
+use Rattle.std.proofs.lemmas.Int.{ints}
 use Rattle.std.specs.Option.{option_copied}
-use Rattle.std.specs.Prelude.{length}
+use Rattle.der_core.specs.Rules.{IsFirstBroken}
 use Rattle.authenticode_core.specs.Excuses.{places_from}
+use Rattle.authenticode_core.specs.TrustList.{IsOnList, name_rules}
 use Rattle.authenticode_core.proofs.GivenLists.{lent, none_given, none_lent}
 use Rattle.authenticode_core.proofs.TokenBags.{goes_over, listed_or_not, some_places}
 use Rattle.authenticode_core.proofs.excuse.expect_listed_token.Goals as goal
@@ -19,4 +22,6 @@ pub returns : goal.returns
 returns c = λ bag is.
     let gives = goes_over c.certificate_bag.result bag (c.certificate_bag.ensures.stands bag is) c.certificate_bag.ensures.place in
     let named = c.in-Some-authority_name.ensures bag (places_from 0 (length bag)) gives in
-    listed_or_not c.args.policy.now bag c.in-Some.list.now (lent c.args.policy.now.list c.in-Some.list c.in-Some.is) named.0 named.1 c.expect_on_list.result (c.expect_on_list.ensures named.0 named.2)
+    let now : to_z w64 (of_z w64 c.args.policy.now.now) ≡ c.args.policy.now.now = omega (arith, ints) in
+    let on = subst (λ (n : ℤ). MatchResult c.expect_on_list.result (λ _. IsOnList c.in-Some.list.now n named.0) (IsFirstBroken (name_rules c.in-Some.list.now n named.0))) now (c.expect_on_list.ensures named.0 named.2) in
+    listed_or_not c.args.policy.now bag c.in-Some.list.now (lent c.args.policy.now.list c.in-Some.list c.in-Some.is) named.0 named.1 c.expect_on_list.result on

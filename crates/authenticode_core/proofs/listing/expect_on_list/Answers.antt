@@ -1,8 +1,7 @@
-use Rattle.std.proofs.Common.{ap, sym, subst}
+use Rattle.std.proofs.Common.{◌≡◌, ℕ, ℤ, List, arith, of_z, subst, to_z, w64}
+use Rattle.std.proofs.lemmas.Int.{ints}
 use Rattle.std.proofs.lemmas.Result.{err_from_is_err_and}
-use Rattle.der_core.specs.Encoding.{encoding}
 use Rattle.der_core.specs.Rules.{IsFirstBroken}
-use Rattle.std.specs.Prelude.{ℕ, List}
 use Rattle.trust_list.specs.Listing.{IsListed, listing_rules}
 use Rattle.authenticode_core.proofs.OnList.{no_list, not_listed}
 use Rattle.authenticode_core.proofs.listing.expect_on_list.Goals as goal
@@ -14,10 +13,16 @@ returns-in_err-entries c = λ ca is.
 
 pub returns-in_err-expect_listed : goal.returns-in_err-expect_listed
 returns-in_err-expect_listed c = λ ca is.
+    let now : to_z w64 (of_z w64 c.args.now) ≡ c.args.now = omega (arith, ints) in
     let p = err_from_is_err_and c.from_residual-in_err-expect_listed.result c.from_residual-in_err-expect_listed.ensures.1 in
     let e = c.in_err-expect_listed.field-0.0 in
-    rw (p.1, p.2) (not_listed c.args.list.now c.args.now ca c.in_ok-entries.entries.now e c.in_ok-entries.ensures (subst (λ (octets : List ℕ). IsFirstBroken (listing_rules c.in_ok-entries.entries.now octets c.args.now) e) is c.in_err-expect_listed.ensures))
+    let entries = c.in_ok-entries.entries.now in
+    let then = subst (λ (n : ℤ). IsFirstBroken (listing_rules entries c.args.name.now n) e) now c.in_err-expect_listed.ensures in
+    rw (p.1, p.2) (not_listed c.args.list.now c.args.now ca entries e c.in_ok-entries.ensures (subst (λ (octets : List ℕ). IsFirstBroken (listing_rules entries octets c.args.now) e) is then))
 
 pub returns : goal.returns
 returns c = λ ca is.
-    (c.in_ok-entries.entries.now, c.in_ok-entries.ensures, subst (λ (octets : List ℕ). IsListed c.in_ok-entries.entries.now octets c.args.now) is c.in_ok-expect_listed.ensures)
+    let now : to_z w64 (of_z w64 c.args.now) ≡ c.args.now = omega (arith, ints) in
+    let entries = c.in_ok-entries.entries.now in
+    let then = subst (λ (n : ℤ). IsListed entries c.args.name.now n) now c.in_ok-expect_listed.ensures in
+    (entries, c.in_ok-entries.ensures, subst (λ (octets : List ℕ). IsListed entries octets c.args.now) is then)

@@ -4,8 +4,8 @@ use Rattle.authenticode_core.proofs.CaOrder.{signer_ca_of, walk_is_some}
 use Rattle.authenticode_core.proofs.WalkedAll.{some_walk}
 use Rattle.authenticode_core.proofs.listing.signer_ca.Goals as goal
 
-pub returns-in-Some : goal.returns-in-Some
-returns-in-Some c =
+pub returns : goal.returns
+returns c =
     let s = c.requires.1 in
     let e = view_elements c.args.signer.now in
     let walk = some_walk s.0 e.tbs.subject in
