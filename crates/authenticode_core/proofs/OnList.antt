@@ -1,5 +1,5 @@
 -- The name of a CA is on a list, or breaks a rule that reports one error.
-use Rattle.std.proofs.Common.{◌≡◌, ℤ, List, Option, Some, None, inl, inr, refl, sym, ap, subst, ◌∙◌}
+use Rattle.std.proofs.Common.{◌≡◌, ℤ, List, Option, Some, None, Result, Ok, Err, MatchResult, inl, inr, refl, sym, ap, subst, ◌∙◌}
 use Rattle.cms_content.specs.ContentValue.{kind_of_content}
 use Rattle.cms_content.specs.declared.content_value.ContentValue.{ContentValue}
 use Rattle.cms_content.specs.declared.content_value.ContentValue.TheVariants as contents
@@ -13,9 +13,10 @@ use Rattle.trust_list.proofs.OneListing.{listed_unbroken, listing_once}
 use Rattle.trust_list.specs.Listing.{listing_rules}
 use Rattle.trust_list.specs.declared.error.ListingError.{ListingError}
 use Rattle.authenticode_core.specs.ContentRefusal.{of_ctl}
-use Rattle.authenticode_core.specs.TrustList.{HasEntries, HasNoContent, HasOtherContent, IsNoList, IsOnList, IsUnlisted, content_of, content_rules, name_rules, of_listing}
+use Rattle.authenticode_core.specs.TrustList.{AreEntriesIn, HasEntries, HasNoContent, HasOtherContent, IsNoList, IsOnList, IsOtherContent, IsUnlisted, content_of, content_rules, name_rules, of_listing}
 use Rattle.authenticode_core.specs.declared.ctl.CertificateTrustList.{CertificateTrustList}
 use Rattle.authenticode_core.specs.declared.ctl_error.CtlError.{CtlError}
+use Rattle.authenticode_core.specs.declared.ctl_error.CtlError.TheVariants as ctl
 use Rattle.authenticode_core.specs.declared.error.AuthenticodeError.{AuthenticodeError}
 use Rattle.authenticode_core.specs.declared.error.AuthenticodeError.TheVariants as errors
 
@@ -29,6 +30,11 @@ one_content a b e = cc
 
 no_content : (o : Option ContentValue) (a : ContentValue) → o ≡ Some a → o ≡ None → ⊥
 no_content o a some none = absurd (cc (some, none))
+
+pub entries_or_not : {X : Type 0} (now : X → List CTLEntry) (list : CertificateTrustList) (content : ContentValue) (r : Result X CtlError) → content_of list ≡ Some content
+    → MatchResult r (λ x. AreEntriesIn content (now x)) (λ e. IsOtherContent content × (e ≡ ctl.IncorrectContentValue)) → MatchResult r (λ x. HasEntries list (now x)) (IsFirstBroken (content_rules list))
+entries_or_not now list content (Ok x) is are = (are.0, is ∙ ap Some are.1, are.2)
+entries_or_not now list content (Err e) is other = inr ((λ a broken. no_content (content_of list) content is broken.0), inl (content, is, other.0, other.1))
 
 module _ (list : CertificateTrustList) where
   pub entries_once : (a b : List CTLEntry) → HasEntries list a → HasEntries list b → a ≡ b

@@ -11,7 +11,8 @@ ghost use Rattle.der_core.specs.Rules.{IsFirstBroken};
 ghost use Rattle.der_core.specs.Structure.{IsWithin};
 ghost use Rattle.der_core.specs.declared.error.DerError.TheVariants as der_errors;
 ghost use Rattle.der_core.specs.declared.fault.DerFault.{DerFault};
-ghost use Rattle.authenticode_core.specs.TrustList.{HasEntries, IsSignedData, content_rules, unread_list};
+ghost use Rattle.authenticode_core.specs.TrustList.{AreEntriesIn, HasEntries, IsOtherContent, IsSignedData, content_rules, unread_list};
+ghost use Rattle.authenticode_core.specs.declared.ctl_error.CtlError.TheVariants.{IncorrectContentValue};
 
 use crate::ctl_error::CtlError;
 use crate::pkcs7_error::Pkcs7Error;
@@ -73,8 +74,7 @@ impl CertificateTrustList {
             (IsFirstBroken (content_rules self.now)) }
     {
         match &self.signed.signed_data.content_info.content {
-            Some(ContentValue::CertificateTrustList(list)) => Ok(list.entries()),
-            Some(_) => Err(CtlError::IncorrectContentValue),
+            Some(content) => entries_in(content),
             None => Err(CtlError::NoContent),
         }
     }
@@ -86,6 +86,17 @@ impl CertificateTrustList {
         Ok(CertificateTrustList {
             signed: self.signed.try_clone(alloc)?,
         })
+    }
+}
+
+/// The entries of a content, in order, if it is a trust list.
+fn entries_in(content: &ContentValue) -> Result<&[CTLEntry], CtlError>
+    ensures { MatchResult result (λ entries. AreEntriesIn content.now entries.now)
+        (λ e. IsOtherContent content.now × (e ≡ IncorrectContentValue)) }
+{
+    match content {
+        ContentValue::CertificateTrustList(list) => Ok(list.entries()),
+        _ => Err(CtlError::IncorrectContentValue),
     }
 }
 
