@@ -27,29 +27,51 @@ there is one, the path is asked for as without one:
                Microsoft's with a first value, some certificate of that token names
                time stamping, and those of it whose subject isn't that of its first
                one are a chain above that one, without dates: `InvalidTimestampCert`.
+               Where the policy has a trust list, the CA of all certificates of the
+               token is on it, by the refusals of step 17.
+
+These are asked where it has `against_list`:
+
+  16           those of step 14;
+  17           where the policy has a trust list, the CA of the issuer walk is on it,
+               or has one of the excluded names, where the policy has `exclude`.  The
+               content of the list is there, `NoContent`, and is a trust list,
+               `IncorrectContentValue`; the others are those of `listing_judge`.
+
+The name of a CA of certificates is that of the last one behind the first that has the
+flag of a CA, an intermediate's issuer and a root's subject.  Where there is none, it
+is the issuer of the first.
+
+A list that isn't signed data is refused before all this: `FailedToParseCtl`.
 
 An answer is the line of a report, and behind the name of a refusal its text.
 """
 
 from typing import NamedTuple
 
-from judges import chain_reader
+from judges import chain_reader, listing_judge
 from judges.basic_judge import (
     OTHER_KEYS, Refused, SignedData, Signer, certificate_in, check_basic, issuer_walk, place_of, refuse_unless, signed_data_in, signers_certificate,
 )
-from judges.der_reader import read_exact, write
-from judges.value_reader import dotted, name_text
+from judges.cms_reader import pkcs7
+from judges.der_reader import Malformed, read_exact, write
+from judges.value_reader import OTHER, Shape, dotted, name_text, shown_fault
 from judges.verdict_rows import verdicts
 from verdict_table import EC, ED25519, MICROSOFT_COUNTERSIGNATURE, RSA, SIGNATURES
 
 TIME_STAMPING = "1.3.6.1.5.5.7.3.8"
 LIFETIME_SIGNING = "1.3.6.1.4.1.311.10.3.13"
+TRUST_LIST = "1.3.6.1.4.1.311.10.1"
 X25519 = "1.3.101.110"
 EXPIRED = "InvalidCertificate:CertificateExpired"
 
 
 class Policy(NamedTuple):
-    """What is asked: the digest of the file, None for none; moments in fourteen digits, the upper one None where the lower is the date."""
+    """What is asked: the digest of the file, None for none; moments in fourteen digits, the upper one None where the lower is the date.
+
+    `trust_list` are the octets of a list, None for none, `now` is in seconds since 1601,
+    and `excluded` are the octets of names.
+    """
 
     basic: bool = False
     signing: bool = False
@@ -59,6 +81,11 @@ class Policy(NamedTuple):
     file_hash: bytes | None = None
     lower: str | None = None
     upper: str | None = None
+    against_list: bool = False
+    trust_list: bytes | None = None
+    now: int = 0
+    exclude: bool = False
+    excluded: tuple = ()
 
 
 # Texts of refusals.
@@ -81,6 +108,14 @@ TEXTS = {
     "HashMismatch": "the signed message digest is {0}, but that of the content is {1}",
     "NoEKUCodeSigning": "the certificate of the signer is not one for code signing",
     "InvalidTimestampCert": "certificate of the time stamp: {0}",
+    "FailedToParseCtl": "(ASN1) couldn't deserialize pkcs7 certificate: {0}",
+    "NoContent": "the trust list has no content",
+    "IncorrectContentValue": "the content of the trust list is another one",
+    "MalformedEntry": "an entry of the trust list is malformed",
+    "CAIsNotTrusted": "the CA is not on the trust list",
+    "CaCertificateRevoked": "the trust list has revoked the CA",
+    "CaCertificateExpired": "the CA was on the trust list until {0}, and it is {1}",
+    "CaCertificateNotYetValid": "the CA is on the trust list from {0}, and it is {1}",
 }
 
 
@@ -201,6 +236,45 @@ def expect_chain(checked, parents, window, table):
         child = parent
 
 
+# Trust lists.
+
+def list_in(octets):
+    """The signed data that a list is."""
+    try:
+        element = read_exact(octets)
+        pkcs7(element)
+    except Malformed as refusal:
+        raise Refused("FailedToParseCtl", f"malformed DER: {shown_fault(refusal)}") from refusal
+    except Shape as refusal:
+        raise Refused("FailedToParseCtl", OTHER) from refusal
+    return SignedData(element)
+
+
+def ca_name(members):
+    """The octets of the name of the CA of certificates."""
+    first, *others = members
+    authorities = [one for one in others if dated(one).limits.ca]
+    if not authorities:
+        return write(first.issuer)
+    last = authorities[-1]
+    return write(last.subject if last.subject == last.issuer else last.issuer)
+
+
+def expect_listed(members, policy, excluded=()):
+    """Where the policy has a list, the name of the CA of these is on it, or one of these names."""
+    if policy.trust_list is None:
+        return
+    name = ca_name(members)
+    if name in excluded:
+        return
+    signed = list_in(policy.trust_list)
+    refuse_unless(signed.content is not None, "NoContent")
+    refuse_unless(signed.content_type == TRUST_LIST, "IncorrectContentValue")
+    refusal = listing_judge.first_refusal(listing_judge.entries_of(signed.content), name, policy.now)
+    if refusal:
+        raise Refused(*refusal)
+
+
 # The steps.
 
 def signer_of(signed):
@@ -226,12 +300,18 @@ def check_signing(signed, policy, table):
     except Refused as refusal:
         if refusal.words[0] != EXPIRED:
             raise
-        excuse = excuse_for(signed.bag, signer, one, refusal, table)
+        excuse = excuse_for(signed.bag, signer, one, refusal, policy, table)
     if not policy.chain:
         return [], excuse
     path = path_of(signed.bag, one)
     expect_chain(dated(one), map(dated, path), window, table)
     return [place_of(member, signed.bag) for member in path], excuse
+
+
+def check_list(signed, policy):
+    """Steps 16 and 17."""
+    _, one = signer_of(signed)
+    expect_listed(issuer_walk(signed.bag, one), policy, policy.excluded if policy.exclude else ())
 
 
 # The excuse.
@@ -244,7 +324,7 @@ def token_of(signer):
     return values.kids[0] if dotted(kind.contents) == MICROSOFT_COUNTERSIGNATURE and values.kids else None
 
 
-def excuse_for(bag, signer, one, refusal, table):
+def excuse_for(bag, signer, one, refusal, policy, table):
     """Why an expired signer is accepted, else the refusal."""
     if one.names(LIFETIME_SIGNING):
         raise refusal
@@ -262,6 +342,7 @@ def excuse_for(bag, signer, one, refusal, table):
         expect_chain(dated(first), above, Window(None, None, False, False), table)
     except Refused as bad:
         raise Refused("InvalidTimestampCert", bad.words[1]) from bad
+    expect_listed(stamped, policy)
     return "token"
 
 
@@ -269,12 +350,16 @@ def excuse_for(bag, signer, one, refusal, table):
 
 def accepted(octets, policy, table):
     """The place of the signer's certificate, those of the path and the excuse, or the first refusal."""
+    if policy.trust_list is not None:
+        list_in(policy.trust_list)
     signed = signed_data_in(certificate_in(octets))
     if policy.basic:
         check_basic(signed, policy.file_hash, table)
     path, excuse = check_signing(signed, policy, table) if policy.signing else ([], "none")
-    place = place_of(signer_of(signed)[1], signed.bag) if policy.basic or policy.signing else ""
-    return place, path, excuse
+    if policy.against_list:
+        check_list(signed, policy)
+    is_told = policy.basic or policy.signing or policy.against_list
+    return place_of(signer_of(signed)[1], signed.bag) if is_told else "", path, excuse
 
 
 def answer(octets, policy, table):
