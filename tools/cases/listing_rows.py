@@ -126,9 +126,9 @@ SIGNED = [
     ([entry(NAMED, begins("000000000000007f"))], 1, "a beginning in the far future"),
     ([entry(NAMED, begins("000000000000007f"), usages([TIME_STAMPING]))], 1, "the same of time stamping alone"),
     ([entry(NAMED, begins("ffffffffffffff7f"))], 922_337_203_685, "the last time"),
-    ([entry(NAMED, begins("ffffffffffffff7f"))], 922_337_203_684, "a second before"),
+    ([entry(NAMED, begins("ffffffffffffff7f"))], 922_337_203_684, "a second before the last time"),
     ([entry(NAMED, ends("0000000000000080"))], -922_337_203_685, "the first time"),
-    ([entry(NAMED, ends("0000000000000080"))], -922_337_203_684, "a second later"),
+    ([entry(NAMED, ends("0000000000000080"))], -922_337_203_684, "a second after the first time"),
     ([entry(NAMED, ends("0000000000000080"))], -2**63, "the first second of all"),
     ([entry(NAMED, begins("ffffffffffffff7f"))], 2**63 - 1, "the last second of all"),
 ]
