@@ -2,13 +2,14 @@
 
 What is answered stands in each row, found by hand from the steps that `check_judge`
 lists.  Rows with two faults are answered by the first.  Those of the steps before
-are in `basic_steps`, those of excuses in `excuse_rows`.
+are in `basic_steps`, those of excuses in `excuse_rows`, those of trust lists in
+`list_rows`.
 """
 
 from dataclasses import replace
 from itertools import combinations
 
-from cases import excuse_rows
+from cases import excuse_rows, list_rows
 from cases.basic_making import Signed, extension, named
 from cases.basic_steps import BY_KEY, DATA_CONTENT, OTHER_HASH, RIGHT, WITHOUT_NULL, WRONG
 from cases.check_making import (
@@ -408,3 +409,4 @@ def rows():
     yield from pairs()
     yield from map(all_from, range(len(FAULTS) - 1))
     yield from excuse_rows.rows()
+    yield from list_rows.rows()

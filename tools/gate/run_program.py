@@ -415,7 +415,7 @@ def day_of(digits):
 
 def words_of(policy):
     """The words behind HASH for a policy, None where there are none."""
-    if not (policy.basic and policy.signing and policy.file_hash and policy.lower):
+    if not (policy.basic and policy.signing and policy.file_hash and policy.lower) or policy.against_list or policy.trust_list is not None:
         return None
     options = [f"--no-{word}" for word, is_on in (("before", policy.not_before), ("after", policy.not_after), ("chain", policy.chain)) if not is_on]
     until = ["--until", day_of(policy.upper)] if policy.upper else []

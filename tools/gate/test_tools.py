@@ -229,6 +229,8 @@ class CheckAnswersTest(unittest.TestCase):
             "MissingExpectedFileHash", "MissingBuilderArgument", "InvalidCertificate:CertificateNotYetValid", "InvalidCertificate:CertificateExpired",
             "InvalidChain:IssuerIsNotCA", "InvalidChain:TooDeep", "InvalidCertificate:ExtensionNotFound", "InvalidCertificate:InvalidChain:AuthorityKeyIdMismatch",
             "InvalidCertificate:InvalidChain:IssuerNameMismatch", "Signature", "InvalidCertificate:Signature", "InvalidTimestampCert",
+            "FailedToParseCtl", "NoContent", "IncorrectContentValue", "CAIsNotTrusted", "CaCertificateRevoked", "MalformedEntry", "CaCertificateExpired",
+            "CaCertificateNotYetValid",
         })
         self.assertEqual({words[-1] for words in said if words[0] == "accepted"}, {"excuse=none", "excuse=bag", "excuse=token"})
 

@@ -25,7 +25,7 @@ from golden.stored_run import write_stored_run
 from judges.check_judge import answer
 from judges.value_reader import word
 
-LETTERS = {"basic": "b", "signing": "s", "not_before": "f", "not_after": "l", "chain": "c"}
+LETTERS = {"basic": "b", "signing": "s", "not_before": "f", "not_after": "l", "chain": "c", "against_list": "a", "exclude": "e"}
 
 
 def moment_word(digits):
@@ -36,12 +36,21 @@ def table_word(table):
     return table.replace(" ", ":").replace("\n", ";") or "-"
 
 
+def list_words(policy):
+    """The trust list, the time and the excluded names, where there is one of them."""
+    if policy.trust_list is None and policy.now == 0 and not policy.excluded:
+        return ()
+    trust_list = "-" if policy.trust_list is None else policy.trust_list.hex()
+    return trust_list, str(policy.now), "+".join(name.hex() for name in policy.excluded) or "-"
+
+
 def asked_word(policy, change=None):
     """What is asked in one word; a change is a place and the octet that stands there instead."""
     flags = "".join(letter for name, letter in LETTERS.items() if getattr(policy, name))
     octets = change[0].to_bytes(2, "big") + bytes([change[1]]) if change else b""
     hash_word = "-" if policy.file_hash is None else policy.file_hash.hex()
-    return ",".join((flags or "-", hash_word, moment_word(policy.lower), moment_word(policy.upper), word(octets)))
+    dates = moment_word(policy.lower), moment_word(policy.upper)
+    return ",".join((flags or "-", hash_word, *dates, word(octets), *list_words(policy)))
 
 
 def asked():

@@ -1,70 +1,79 @@
-//! A policy and a change of the file: five words separated by commas.
+//! A policy and a change of the file: words separated by commas.
 
+use crate::lists::{ListWords, list_words_of, names_of};
 use anyhow::{Context, Result, bail};
 use asn1_types::GeneralizedTime;
-use authenticode_core::Policy;
+use authenticode_core::{CertificateTrustList, Policy};
 use der_core::Octets;
 use golden::octets_of;
-use names_core::{NameList, UtcDate};
+use names_core::UtcDate;
 use std::alloc::Global;
 use x509_core::DateCheck;
 
-/// The policy, and the change of the file, `-` for none.
-#[derive(Drop)]
+/// What is asked, in words: of the policy, and the change of the file, `-` for none.
+#[derive(Clone, Copy)]
 pub struct Asked<'a> {
-    pub policy: Policy<'static>,
+    flags: &'a str,
+    hash: &'a str,
+    lower: &'a str,
+    upper: &'a str,
     pub change: &'a str,
+    pub list: ListWords<'a>,
 }
 
+/// Five words, and behind them those of a trust list, if there is one.
 pub fn asked_of(alloc: Global, text: &str) -> Result<Asked<'_>> {
     let words: Vec<&str> = text.split(',').collect(alloc)?;
-    let [flags, hash, lower, upper, change] = words.as_slice() else {
-        bail!("what is asked has five words");
+    let [flags, hash, lower, upper, change, list @ ..] = words.as_slice() else {
+        bail!("what is asked has five words or more");
     };
-    let date = dates_of(lower, upper)?;
-    let file_hash = hash_of(alloc, hash)?;
     Ok(Asked {
-        policy: policy_of(alloc, flags, file_hash, date)?,
+        flags: *flags,
+        hash: *hash,
+        lower: *lower,
+        upper: *upper,
         change: *change,
+        list: list_words_of(list)?,
     })
 }
 
-/// A flag is on if its letter is there.
-fn policy_of(
+/// The policy, with this list. A flag is on if its letter is there.
+pub fn policy_of<'a>(
     alloc: Global,
-    flags: &str,
-    file_hash: Option<Octets>,
-    date: DateCheck,
-) -> Result<Policy<'static>> {
+    asked: &Asked<'_>,
+    list: Option<&'a CertificateTrustList>,
+) -> Result<Policy<'a>> {
     let mut policy = Policy {
         basic: false,
-        file_hash,
+        file_hash: hash_of(alloc, asked.hash)?,
         signing: false,
         not_before: false,
         not_after: false,
         chain: false,
-        date,
+        date: dates_of(asked.lower, asked.upper)?,
         against_list: false,
-        list: None,
-        now: 0,
+        list,
+        now: asked.list.now,
         exclude: false,
-        excluded: NameList::new(alloc),
+        excluded: names_of(alloc, asked.list.excluded)?,
     };
-    if flags != "-" {
-        for flag in flags.bytes() {
+    if asked.flags != "-" {
+        for flag in asked.flags.bytes() {
             set(&mut policy, flag)?;
         }
     }
     Ok(policy)
 }
 
-fn set(policy: &mut Policy<'static>, flag: u8) -> Result<()> {
+fn set(policy: &mut Policy<'_>, flag: u8) -> Result<()> {
     match flag {
         b'b' => policy.basic = true,
         b's' => policy.signing = true,
         b'f' => policy.not_before = true,
         b'l' => policy.not_after = true,
         b'c' => policy.chain = true,
+        b'a' => policy.against_list = true,
+        b'e' => policy.exclude = true,
         _ => bail!("no flag has such a letter"),
     }
     Ok(())

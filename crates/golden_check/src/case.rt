@@ -1,10 +1,11 @@
 //! A case, and its output.
 
-use crate::asked::asked_of;
+use crate::asked::{Asked, asked_of, policy_of};
 use crate::kept::kept_line;
-use crate::line::told;
+use crate::line::{told, unread_line};
+use crate::lists::list_octets;
 use anyhow::{Result, bail};
-use authenticode_core::{Policy, check_wincert};
+use authenticode_core::{CertificateTrustList, Policy, check_wincert};
 use golden::octets_of;
 use sig_core::VerdictTable;
 use std::alloc::Global;
@@ -34,15 +35,32 @@ fn table_of(alloc: Global, word: &str) -> Result<VerdictTable> {
     Ok(VerdictTable::parse(alloc, text.as_bytes())?)
 }
 
-/// The line for a policy and a change in a case.
+/// The line for a policy and a change in a case. A trust list that isn't read is refused first.
 pub fn answer(alloc: Global, case: &Case, text: &str) -> Result<String> {
     let asked = asked_of(alloc, text)?;
+    let Some(octets) = list_octets(alloc, &asked.list)? else {
+        return asked_line(alloc, case, &asked, None);
+    };
+    match CertificateTrustList::from_der(alloc, &octets) {
+        Ok(list) => asked_line(alloc, case, &asked, Some(&list)),
+        Err(error) => unread_line(alloc, error),
+    }
+}
+
+/// The line for what is asked, with a trust list.
+fn asked_line(
+    alloc: Global,
+    case: &Case,
+    asked: &Asked<'_>,
+    list: Option<&CertificateTrustList>,
+) -> Result<String> {
+    let policy = policy_of(alloc, asked, list)?;
     if asked.change == "-" {
-        return line_of(alloc, &case.file, &asked.policy, &case.table);
+        return line_of(alloc, &case.file, &policy, &case.table);
     }
     let change = octets_of(alloc, asked.change)?;
     let file = changed(alloc, &case.file, &change)?;
-    line_of(alloc, &file, &asked.policy, &case.table)
+    line_of(alloc, &file, &policy, &case.table)
 }
 
 /// The line for the result, after `differs` if the result for the owned signature is another.

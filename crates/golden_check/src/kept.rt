@@ -2,9 +2,10 @@
 
 use crate::line::told;
 use anyhow::Result;
-use authenticode_core::{Accepted, CheckError, DateCheck, Policy};
+use authenticode_core::{Accepted, CertificateTrustList, CheckError, DateCheck, Policy};
 use authenticode_signature::{AuthenticodeSignature, AuthenticodeValidator};
 use der_core::Octets;
+use names_core::DirectoryName;
 use sig_core::VerdictTable;
 use std::alloc::{AllocError, Global};
 use wincert_core::WinCertificate;
@@ -60,7 +61,9 @@ fn verified(
     let verifier = with_not_before(verifier, policy.not_before);
     let verifier = with_not_after(verifier, policy.not_after);
     let verifier = with_dates(verifier, policy.date);
-    let verifier = verifier.ignore_ca_against_ctl_check();
+    let verifier = with_list_check(verifier, policy.against_list);
+    let verifier = with_list(verifier, policy.list, policy.now);
+    let verifier = with_excluded(verifier, policy.exclude, policy.excluded.as_slice())?;
     verified_by(alloc, &verifier, table)
 }
 
@@ -144,4 +147,40 @@ fn with_dates<'a>(
             verifier.exact_date(upper).interval_date(lower, upper)
         }
     }
+}
+
+fn with_list_check<'a>(
+    verifier: AuthenticodeValidator<'a>,
+    asked: bool,
+) -> AuthenticodeValidator<'a> {
+    let verifier = verifier.ignore_ca_against_ctl_check();
+    if asked {
+        verifier.require_ca_against_ctl_check()
+    } else {
+        verifier
+    }
+}
+
+fn with_list<'a>(
+    verifier: AuthenticodeValidator<'a>,
+    list: Option<&'a CertificateTrustList>,
+    now: i64,
+) -> AuthenticodeValidator<'a> {
+    match list {
+        Some(list) => verifier.ctl(list, now),
+        None => verifier,
+    }
+}
+
+/// No names are excluded if they aren't asked for.
+fn with_excluded<'a>(
+    verifier: AuthenticodeValidator<'a>,
+    asked: bool,
+    names: &[DirectoryName],
+) -> Result<AuthenticodeValidator<'a>, AllocError> {
+    let mut verifier = verifier.ignore_excluded_cert_authorities();
+    if asked {
+        verifier.exclude_cert_authorities(names)?;
+    }
+    Ok(verifier)
 }

@@ -1,7 +1,7 @@
 //! The line for a result: that of a report, and the text of a refusal.
 
 use anyhow::Result;
-use authenticode_core::{Accepted, CheckError, Excuse};
+use authenticode_core::{Accepted, AuthenticodeError, CheckError, CtlError, Excuse};
 use std::alloc::{AllocError, Global};
 
 /// The line for a result.
@@ -10,6 +10,11 @@ pub fn told(alloc: Global, answer: &Result<Accepted, CheckError>) -> Result<Stri
         Ok(accepted) => accepted_line(alloc, accepted),
         Err(error) => refused_line(alloc, error),
     }
+}
+
+/// The line for a trust list that isn't read.
+pub fn unread_line(alloc: Global, error: CtlError) -> Result<String> {
+    refused_line(alloc, &CheckError::from(AuthenticodeError::from(error)))
 }
 
 fn accepted_line(alloc: Global, accepted: &Accepted) -> Result<String> {

@@ -9,10 +9,12 @@
 //! space and `;` for each newline; and any number of policies. A line is printed for each policy,
 //! with `differs` before it if the result of the validator is another.
 //!
-//! A policy is five words separated by commas: a letter for each flag that is on, `b` for basic,
-//! `s` for signing, `f` and `l` for the first and the last end of validities, `c` for the chain;
-//! the digest of the file; the date, or the lower end of the dates, as `20250101000000Z`; the upper
-//! end; and an offset in the file in two octets with the octet to put there. `-` is none.
+//! A policy is five words separated by commas, or eight: a letter for each flag that is on, `b` for
+//! basic, `s` for signing, `f` and `l` for the first and the last end of validities, `c` for the
+//! chain, `a` for the trust list, `e` for excluded names; the digest of the file; the date, or the
+//! lower end of the dates, as `20250101000000Z`; the upper end; an offset in the file in two octets
+//! with the octet to put there; a trust list, the time in seconds since 1601, and the names
+//! excluded, with `+` between. `-` is none. For a trust list that isn't read, why is printed.
 //! `tools/golden/golden_check.py` makes such a file, and its golden output.
 #![tactic(auto)]
 
@@ -20,6 +22,7 @@ mod asked;
 mod case;
 mod kept;
 mod line;
+mod lists;
 
 use crate::case::{answer, case_of};
 use anyhow::{Result, bail};
