@@ -8,8 +8,9 @@ Usage:
 PROGRAM is the executable of the crate `golden_check`.  Half of the files are those
 of `golden_check.py`, changed as `compare_basic.py` changes them, under policies drawn
 at random, the others are drawn whole (`drawn_excuses.py`).  The table accepts most of
-the signatures that a check may ask for, so that the steps behind them are reached.
-Exit status 1 says that an answer differs.
+the signatures that a check may ask for, so that the steps behind them are reached.  Of
+two policies one has a trust list (`drawn_lists.py`).  Exit status 1 says that an answer
+differs.
 """
 
 import sys
@@ -18,7 +19,7 @@ from pathlib import Path
 sys.path.insert(0, str(Path(__file__).resolve().parents[1]))
 
 import verdict_table
-from cases import check_rows, drawn_excuses, real_policies
+from cases import check_rows, drawn_excuses, drawn_lists, real_policies
 from cases.basic_world import HEADER
 from common import command
 from golden import golden_check
@@ -82,8 +83,12 @@ def case(chance, element):
 
 
 def either(chance, element):
-    """A case of the element, changed, or one that is drawn whole."""
-    return drawn_excuses.case(chance) if chance.random() < 0.5 else case(chance, element)
+    """A case of the element, changed, or one that is drawn whole, with a trust list or without."""
+    made = drawn_excuses.case(chance) if chance.random() < 0.5 else case(chance, element)
+    if made is None or chance.random() < 0.5:
+        return made
+    file, policy, table = made
+    return file, drawn_lists.with_list(chance, file, policy), table
 
 
 def kind(said):
