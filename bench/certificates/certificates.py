@@ -5,7 +5,7 @@ Usage:
 
     python3 bench/certificates/certificates.py [--rounds N] [--times N] PROGRAM
 
-PROGRAM is the path of `golden_certificate`.  The script builds the three
+PROGRAM is the path of `xgolden_certificate`.  The script builds the three
 others from `certificates.rs`, `certificates.c` and `certificates.go`, with
 Debian's packages librust-webpki-dev (and a Rust toolchain), libmbedtls-dev and
 golang-go, and makes two files: the certificates of
@@ -194,7 +194,7 @@ def main(words):
     parser = argparse.ArgumentParser(description="Time to read a certificate.")
     parser.add_argument("--rounds", type=int, default=7)
     parser.add_argument("--times", type=int, default=200)
-    parser.add_argument("program", type=Path, help="path of golden_certificate")
+    parser.add_argument("program", type=Path, help="path of xgolden_certificate")
     options = parser.parse_args(words)
     with tempfile.TemporaryDirectory() as name:
         folder = Path(name)

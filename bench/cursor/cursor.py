@@ -10,7 +10,7 @@ makes files of 4 and 16 MiB, one SEQUENCE each, and runs in turn
     openssl asn1parse -inform DER -in FILE
     PROGRAM count FILE
 
-PROGRAM is the path of `golden_der`, and must print how many elements the
+PROGRAM is the path of `xgolden_der`, and must print how many elements the
 file has.  What openssl prints goes to the null device.  `--cryptobyte` names
 the program of `bench/cursor/cursor.go`, which does the same with Go's cryptobyte:
 
@@ -107,7 +107,7 @@ def main(words):
     parser = argparse.ArgumentParser(description="Speed of a cursor.")
     parser.add_argument("--repetitions", type=int, default=3)
     parser.add_argument("--cryptobyte", help="path of the program of bench/cursor/cursor.go")
-    parser.add_argument("program", help="path of golden_der")
+    parser.add_argument("program", help="path of xgolden_der")
     options = parser.parse_args(words)
     kept = True
     print(f"| file | MiB | elements | openssl s | cryptobyte s | cursor s | speed, at least {LEAST_SPEED} "

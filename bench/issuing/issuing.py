@@ -5,7 +5,7 @@ Usage:
 
     python3 bench/issuing/issuing.py [--rounds N] [--times N] PROGRAM
 
-PROGRAM is the path of `golden_issuing`.  The script builds the three others from `issuing.c`,
+PROGRAM is the path of `xgolden_issuing`.  The script builds the three others from `issuing.c`,
 `issuing.go` and `issuing.rs`, with Debian's packages libssl-dev, golang-go and librust-webpki-dev (and
 a Rust toolchain), and has openssl make a root, an authority and a certificate, each with a key of RSA
 of 2,048 bits.  No program does arithmetic: the one accepts and signs by a scheme that answers at once,
@@ -181,7 +181,7 @@ def main(words):
     parser = argparse.ArgumentParser(description="Time to judge a chain and to build a certificate.")
     parser.add_argument("--rounds", type=int, default=7)
     parser.add_argument("--times", type=int, default=2000)
-    parser.add_argument("program", type=Path, help="path of golden_issuing")
+    parser.add_argument("program", type=Path, help="path of xgolden_issuing")
     options = parser.parse_args(words)
     with tempfile.TemporaryDirectory() as name:
         folder = Path(name)

@@ -5,7 +5,7 @@ Usage:
 
     python3 bench/signed_data/signed_data.py [--rounds N] [--times N] PROGRAM
 
-PROGRAM is the path of `golden_cms`.  The script builds the other program from
+PROGRAM is the path of `xgolden_cms`.  The script builds the other program from
 `signed_data.c`, with Debian's packages libssl-dev and libgnutls28-dev, and has
 openssl make a signature of some 12 KB: RSA of 4,096 bits, four certificates,
 and a token with its own, as an unsigned attribute.  Each program reads it so
@@ -144,7 +144,7 @@ def main(words):
     parser = argparse.ArgumentParser(description="Time to read signed data.")
     parser.add_argument("--rounds", type=int, default=7)
     parser.add_argument("--times", type=int, default=2000)
-    parser.add_argument("program", type=Path, help="path of golden_cms")
+    parser.add_argument("program", type=Path, help="path of xgolden_cms")
     options = parser.parse_args(words)
     with tempfile.TemporaryDirectory() as name:
         folder = Path(name)

@@ -1,4 +1,4 @@
-"""Signature files under policies, for `golden_check`: the worked rows, and a row for each refusal for the signer's certificate and its chain.
+"""Signature files under policies, for `xgolden_check`: the worked rows, and a row for each refusal for the signer's certificate and its chain.
 
 What is answered stands in each row, found by hand from the steps that `check_judge`
 lists.  Rows with two faults are answered by the first.  Those of the steps before

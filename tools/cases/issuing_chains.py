@@ -1,4 +1,4 @@
-"""Rows of `golden_issuing` on certificates over their parents, each with the reason why it is there.
+"""Rows of `xgolden_issuing` on certificates over their parents, each with the reason why it is there.
 
 The certificates are made by `issuing_maker`, or put together by hand where it makes none of the kind; their
 signatures are those of the demonstration scheme.  The lines come from `issuing_judge`.

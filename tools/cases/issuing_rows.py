@@ -1,4 +1,4 @@
-"""Rows of `golden_issuing` on certificates that are built and on requests, each with the reason why it is there.
+"""Rows of `xgolden_issuing` on certificates that are built and on requests, each with the reason why it is there.
 
 The lines come from `issuing_maker` and `issuing_judge`.
 """

@@ -245,7 +245,7 @@ def certificates():
 
 
 def rows():
-    """The rows of `golden_certificate` on certificates that are kept."""
+    """The rows of `xgolden_certificate` on certificates that are kept."""
     for octets in certificates():
         yield f"kept certificate {word(octets)}", kept_line(octets)
     for algorithm, _ in ALGORITHMS:

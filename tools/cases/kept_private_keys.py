@@ -10,8 +10,8 @@ point in `private_key_rows.txt`, and tells where the one of a line here is
 another; and has it read what is written of each key there, and tells where
 that key is another.
 
-The rows of `golden_structure` on private keys and their lines, beside those of
-`golden_value`.  A line has the kind, the octets in PKCS #8, whether a copy is
+The rows of `xgolden_structure` on private keys and their lines, beside those of
+`xgolden_value`.  A line has the kind, the octets in PKCS #8, whether a copy is
 equal, whether what is read of these octets is, the octets in PKCS #1 and those
 of the public key, or why there are none.
 """

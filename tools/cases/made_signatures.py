@@ -5,13 +5,13 @@ Usage:
 
     python3 tools/cases/made_signatures.py
 
-prints in hexadecimal digits the file of `crates/test_kept/src/making.rt`, and
-behind it that of `crates/test_usage/src/signing.rt`.
+prints in hexadecimal digits the file of `crates/xtest_kept/src/making.rt`, and
+behind it that of `crates/xtest_usage/src/signing.rt`.
 
 The form is that of RFC 2315 9.1 and 9.2 and of Windows Authenticode Portable
 Executable Signature Format, as docs/FORMATS.md tells it.  Certificates are made
 by `issuing_maker`, signatures of the demonstration scheme by its rules.  The
-rows of `MADE` and `BUILT` are those of `golden_kept` on signatures that are
+rows of `MADE` and `BUILT` are those of `xgolden_kept` on signatures that are
 made; which certificates are carried, and why a signature isn't made, stands
 beside each.
 """

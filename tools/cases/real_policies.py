@@ -1,4 +1,4 @@
-"""The signatures of `world_signatures.txt` and `signed_programs.txt` under policies, for `golden_check`.
+"""The signatures of `world_signatures.txt` and `signed_programs.txt` under policies, for `xgolden_check`.
 
 The answers are those of `check_judge`; the tables are what openssl's arithmetic
 gives for the signatures.  Each signature file is asked at a date within the window

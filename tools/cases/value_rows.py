@@ -1,4 +1,4 @@
-"""Rows of values for `golden_value`: times, integers, strings, and why each row is there."""
+"""Rows of values for `xgolden_value`: times, integers, strings, and why each row is there."""
 
 # Fields of moments.
 MOMENTS = [

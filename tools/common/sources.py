@@ -10,4 +10,4 @@ COMMENT_OR_TEXT = re.compile(
 
 def is_library(crate):
     """Whether the folder of a crate has a library, and no golden program's or test's."""
-    return not crate.name.startswith(("golden", "test_")) and (crate / "src" / "lib.rt").is_file()
+    return not crate.name.startswith(("xgolden", "xtest_")) and (crate / "src" / "lib.rt").is_file()

@@ -1,4 +1,4 @@
-"""Tests of what the maker and the judge of `golden_issuing` find: against lines by hand, and openssl.
+"""Tests of what the maker and the judge of `xgolden_issuing` find: against lines by hand, and openssl.
 
     python3 -m unittest discover -s tools/gate
 """
@@ -12,7 +12,7 @@ sys.path.insert(0, str(Path(__file__).resolve().parents[1]))
 
 from cases import issuing_chains as chains
 from cases import issuing_rows as rows
-from golden import golden_issuing
+from golden import xgolden_issuing
 from interop import issuing_check, world_requests
 from judges.der_reader import read_exact, write
 from judges.issuing_judge import chain_line, request_line
@@ -43,17 +43,17 @@ def settled(settings, scheme=rows.DEMO, key=rows.K11):
 class StoredRunTest(unittest.TestCase):
 
     def test_stored_files(self):
-        for path, octets in golden_issuing.stored_files().items():
-            self.assertEqual((golden_issuing.FOLDER / path).read_bytes(), octets, path)
+        for path, octets in xgolden_issuing.stored_files().items():
+            self.assertEqual((xgolden_issuing.FOLDER / path).read_bytes(), octets, path)
 
     @unittest.skipUnless(which("openssl"), "openssl isn't there")
     def test_openssl_reads_some(self):
-        read = [row for row in golden_issuing.stored() if " build " in row[0] or " generate " in row[0]]
+        read = [row for row in xgolden_issuing.stored() if " build " in row[0] or " generate " in row[0]]
         self.assertEqual(issuing_check.check(read[::12]), 0)
 
     @unittest.skipUnless(which("openssl"), "openssl isn't there")
     def test_openssl_says_another_field(self):
-        row, line = next(iter(golden_issuing.stored()))
+        row, line = next(iter(xgolden_issuing.stored()))
         octets = bytes.fromhex(line.split(" ")[0])
         for asked, other in (("=20200101", "=20200102"), ("build 0", "build 2"), ("5369676e6572", "5369676e6573")):
             self.assertIn(asked, row)

@@ -32,10 +32,10 @@ from cases.hostile_inputs import ROWS
 from common import folders
 from common.openssl import OpensslError, openssl
 from gate import run_program, unused_calls
-from golden import compare_basic, compare_check, compare_readers, golden_basic, golden_check, golden_kept, golden_path, reader_stand_in
+from golden import compare_basic, compare_check, compare_readers, reader_stand_in, xgolden_basic, xgolden_check, xgolden_kept, xgolden_path
 from golden.compare_readers import Comparison, block_line, case_file, cases_of, inputs, spelled
-from golden.golden_der import stored_files
-from golden.golden_value import stored_files as stored_values
+from golden.xgolden_der import stored_files
+from golden.xgolden_value import stored_files as stored_values
 from interop import certificate_parts, chains, made_check, oid_table, signed_programs, world_certificates, world_signatures
 from interop.certificate_fields import Differs, Fields, openssl_check
 from interop.certificate_making import (
@@ -184,7 +184,7 @@ class StoredAnswersTest(unittest.TestCase):
 
     def test_stored_files(self):
         for path, octets in stored_files().items():
-            self.assertEqual((folders.CRATES / "golden_der" / path).read_bytes(), octets, path)
+            self.assertEqual((folders.CRATES / "xgolden_der" / path).read_bytes(), octets, path)
 
 
 class BasicAnswersTest(unittest.TestCase):
@@ -194,10 +194,10 @@ class BasicAnswersTest(unittest.TestCase):
         self.assertEqual(made, basic_rows.FILE)
 
     def test_answers_are_those_by_hand(self):
-        self.assertEqual(list(golden_basic.unlike()), [])
+        self.assertEqual(list(xgolden_basic.unlike()), [])
 
     def test_every_refusal_has_a_row(self):
-        names = {said.split()[0] for *_, said in golden_basic.rows()}
+        names = {said.split()[0] for *_, said in xgolden_basic.rows()}
         self.assertEqual(names, {
             "WrongLength", "CertificateDataIsEmpty", "WrongRevisionValue", "WrongCertificateType", "Io", "Asn1Deserialization",
             "IncorrectVersion", "MultipleSignerInfo", "IncorrectDigestAlgorithmsCount", "NoEncapsulatedContentInfo", "NoSpcIndirectDataContent",
@@ -214,18 +214,18 @@ class BasicAnswersTest(unittest.TestCase):
                 self.assertNotEqual(file[at], octet, label)
 
     def test_stored_files(self):
-        for path, octets in golden_basic.stored_files().items():
-            self.assertEqual((folders.CRATES / "golden_basic" / path).read_bytes(), octets, path)
+        for path, octets in xgolden_basic.stored_files().items():
+            self.assertEqual((folders.CRATES / "xgolden_basic" / path).read_bytes(), octets, path)
 
 
 class CheckAnswersTest(unittest.TestCase):
 
     def test_answers_are_those_by_hand(self):
-        self.assertEqual(list(golden_check.unlike()), [])
+        self.assertEqual(list(xgolden_check.unlike()), [])
 
     def test_every_refusal_and_excuse_has_a_row(self):
         said = [row.said.split() for row in check_rows.rows()]
-        self.assertEqual({words[1] for words in said if words[0] == "refused"} - {said.split()[0] for *_, said in golden_basic.rows()}, {
+        self.assertEqual({words[1] for words in said if words[0] == "refused"} - {said.split()[0] for *_, said in xgolden_basic.rows()}, {
             "MissingExpectedFileHash", "MissingBuilderArgument", "InvalidCertificate:CertificateNotYetValid", "InvalidCertificate:CertificateExpired",
             "InvalidChain:IssuerIsNotCA", "InvalidChain:TooDeep", "InvalidCertificate:ExtensionNotFound", "InvalidCertificate:InvalidChain:AuthorityKeyIdMismatch",
             "InvalidCertificate:InvalidChain:IssuerNameMismatch", "Signature", "InvalidCertificate:Signature", "InvalidTimestampCert",
@@ -235,8 +235,8 @@ class CheckAnswersTest(unittest.TestCase):
         self.assertEqual({words[-1] for words in said if words[0] == "accepted"}, {"excuse=none", "excuse=bag", "excuse=token"})
 
     def test_stored_files(self):
-        for path, octets in golden_check.stored_files().items():
-            self.assertEqual((folders.CRATES / "golden_check" / path).read_bytes(), octets, path)
+        for path, octets in xgolden_check.stored_files().items():
+            self.assertEqual((folders.CRATES / "xgolden_check" / path).read_bytes(), octets, path)
 
 
 class SignedProgramsTest(unittest.TestCase):
@@ -275,29 +275,29 @@ class SignedProgramsTest(unittest.TestCase):
 class PathAnswersTest(unittest.TestCase):
 
     def test_answers_are_those_by_hand(self):
-        for label, octets, said in golden_path.CASES:
-            self.assertEqual(golden_path.answer(octets), said, label)
+        for label, octets, said in xgolden_path.CASES:
+            self.assertEqual(xgolden_path.answer(octets), said, label)
 
     def test_stored_files(self):
-        for path, octets in golden_path.stored_files().items():
-            self.assertEqual((folders.CRATES / "golden_path" / path).read_bytes(), octets, path)
+        for path, octets in xgolden_path.stored_files().items():
+            self.assertEqual((folders.CRATES / "xgolden_path" / path).read_bytes(), octets, path)
 
 
 class KeptAnswersTest(unittest.TestCase):
 
     def test_answers_are_those_by_hand(self):
-        for label, octets, said in golden_kept.CASES:
-            self.assertEqual(golden_kept.answer(octets), said, label)
+        for label, octets, said in xgolden_kept.CASES:
+            self.assertEqual(xgolden_kept.answer(octets), said, label)
 
     def test_stored_files(self):
-        for path, octets in golden_kept.stored_files().items():
-            self.assertEqual((folders.CRATES / "golden_kept" / path).read_bytes(), octets, path)
+        for path, octets in xgolden_kept.stored_files().items():
+            self.assertEqual((folders.CRATES / "xgolden_kept" / path).read_bytes(), octets, path)
 
 
 class MadeSignaturesTest(unittest.TestCase):
 
     def test_files_of_tests(self):
-        for path, program in (("test_kept/src/making.rt", made_signatures.SAMPLE),):
+        for path, program in (("xtest_kept/src/making.rt", made_signatures.SAMPLE),):
             source = (folders.CRATES / path).read_text(encoding="utf-8")
             self.assertIn(f'"{made_signatures.padded(program.value()).hex()}"', source)
 
@@ -741,7 +741,7 @@ class UnusedCallsTest(unittest.TestCase):
     def listed(self, *tests):
         """What is listed of the library, where each test is a file of another crate."""
         texts = {"names/src/lib.rt": "", "names/src/name.rt": self.NAME, "names/src/names.rt": self.NAMES}
-        texts |= {f"test_{at}/src/lib.rt": text for at, text in enumerate(tests)}
+        texts |= {f"xtest_{at}/src/lib.rt": text for at, text in enumerate(tests)}
         with TemporaryDirectory() as folder:
             for path, text in texts.items():
                 Path(folder, path).parent.mkdir(parents=True, exist_ok=True)
@@ -780,7 +780,7 @@ class RunsTest(unittest.TestCase):
     def test_rows(self):
         self.assertEqual({row.status for row in run_program.ROWS}, set(range(7)))
         names = {row.line.split()[1] for row in run_program.ROWS if row.status == 1 and row.words[0] == "basic"}
-        self.assertEqual(names, {said.split()[0] for *_, said in golden_basic.rows()} - {"accepted"})
+        self.assertEqual(names, {said.split()[0] for *_, said in xgolden_basic.rows()} - {"accepted"})
         checked = {row.line for row in run_program.CHECK_ROWS}
         lines = (run_program.line_of(row.said) for row in check_rows.rows() if run_program.words_of(row.policy))
         self.assertEqual({line for line in lines if line.startswith("refused")} - checked, set())

@@ -1,12 +1,12 @@
 #!/usr/bin/env python3
-"""Compare what `golden_basic` prints with what `basic_judge` says, on signature files with elements changed at random.
+"""Compare what `xgolden_basic` prints with what `basic_judge` says, on signature files with elements changed at random.
 
 Usage:
 
     python3 tools/golden/compare_basic.py [--seed N] [--count N] PROGRAM
 
-PROGRAM is the executable of the crate `golden_basic`.  The files are those of
-`golden_basic.py` in which elements are left out, repeated, exchanged, put
+PROGRAM is the executable of the crate `xgolden_basic`.  The files are those of
+`xgolden_basic.py` in which elements are left out, repeated, exchanged, put
 elsewhere or changed in an octet, one to three times.  The table accepts the
 signature of whatever signer and certificate the judge finds there, so that the
 steps behind the signature are reached, and mostly the digest that stands in the
@@ -26,7 +26,7 @@ sys.path.insert(0, str(Path(__file__).resolve().parents[1]))
 
 from cases.basic_world import HEADER, signature_file, with_octet
 from common import command
-from golden import golden_basic
+from golden import xgolden_basic
 from judges import basic_judge
 from judges.der_reader import Constructed, Malformed, NotWritable, Primitive, read_first, write
 from judges.value_reader import word
@@ -36,7 +36,7 @@ LONGEST = 6000
 
 def bases():
     """Values that are one element, and the digests that they are asked for."""
-    for (file, file_hash, *_), said in golden_basic.cases():
+    for (file, file_hash, *_), said in xgolden_basic.cases():
         try:
             element, _ = read_first(file[HEADER:])
         except Malformed:
@@ -176,7 +176,7 @@ def options(words, description, count, program):
 
 
 def main(arguments):
-    words = options(arguments, "Basic validation beside a judge in Python.", 6000, "golden_basic")
+    words = options(arguments, "Basic validation beside a judge in Python.", 6000, "xgolden_basic")
     made = cases(words.seed, words.count, bases(), case)
     rows = [(word(octets), word(file_hash), word(table.encode())) for octets, file_hash, table in made]
     return compare(words.program, rows, [basic_judge.answer(*one) for one in made], lambda said: said.split()[0])

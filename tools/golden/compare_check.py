@@ -1,12 +1,12 @@
 #!/usr/bin/env python3
-"""Compare what `golden_check` prints with what `check_judge` says, on signature files with elements changed at random.
+"""Compare what `xgolden_check` prints with what `check_judge` says, on signature files with elements changed at random.
 
 Usage:
 
     python3 tools/golden/compare_check.py [--seed N] [--count N] PROGRAM
 
-PROGRAM is the executable of the crate `golden_check`.  Half of the files are those
-of `golden_check.py`, changed as `compare_basic.py` changes them, under policies drawn
+PROGRAM is the executable of the crate `xgolden_check`.  Half of the files are those
+of `xgolden_check.py`, changed as `compare_basic.py` changes them, under policies drawn
 at random, the others are drawn whole (`drawn_excuses.py`).  The table accepts most of
 the signatures that a check may ask for, so that the steps behind them are reached.  Of
 two policies one has a trust list (`drawn_lists.py`).  Exit status 1 says that an answer
@@ -22,7 +22,7 @@ import verdict_table
 from cases import check_rows, drawn_excuses, drawn_lists, real_policies
 from cases.basic_world import HEADER
 from common import command
-from golden import golden_check
+from golden import xgolden_check
 from golden.compare_basic import LONGEST, cases, changed, compare, digest_within, options
 from judges.check_judge import Policy, answer
 from judges.der_reader import Malformed, read_first
@@ -98,9 +98,9 @@ def kind(said):
 
 
 def main(arguments):
-    words = options(arguments, "A check under a policy beside a judge in Python.", 4000, "golden_check")
+    words = options(arguments, "A check under a policy beside a judge in Python.", 4000, "xgolden_check")
     made = cases(words.seed, words.count, bases(), either)
-    rows = [(word(octets), golden_check.table_word(table), golden_check.asked_word(policy)) for octets, policy, table in made]
+    rows = [(word(octets), xgolden_check.table_word(table), xgolden_check.asked_word(policy)) for octets, policy, table in made]
     return compare(words.program, rows, [answer(*one) for one in made], kind)
 
 

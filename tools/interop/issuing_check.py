@@ -1,4 +1,4 @@
-"""What openssl says of the certificates and requests that the stored run of `golden_issuing` made, field by field,
+"""What openssl says of the certificates and requests that the stored run of `xgolden_issuing` made, field by field,
 beside what was asked for.
 
 It rests on the rows, and on no reader here but that of names: of each certificate the serial number, the names, the

@@ -5,7 +5,7 @@ Usage:
 
     python3 tools/interop/made_check.py PROGRAM
 
-PROGRAM is the executable of the crate `golden_kept`.  openssl (3.0 or later) makes
+PROGRAM is the executable of the crate `xgolden_kept`.  openssl (3.0 or later) makes
 keys of RSA and certificates, and signs for each case what is to be signed, which
 `made_signatures` puts together; a row of the program has the message and its
 signature, and so the scheme that hands it out when the program makes the signature.

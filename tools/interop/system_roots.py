@@ -5,7 +5,7 @@ Usage:
 
     python3 tools/interop/system_roots.py [--folder FOLDER] PROGRAM
 
-PROGRAM is the path of `golden_certificate`.  It is asked for each root of
+PROGRAM is the path of `xgolden_certificate`.  It is asked for each root of
 Debian's package ca-certificates, as a value of its own, as one that is lent, and
 as one that is kept; the answers are compared with those of `value_reader`, and these field by
 field with what `openssl x509` and Python's package `cryptography` say.  Printed
@@ -24,7 +24,7 @@ sys.path.insert(0, str(Path(__file__).resolve().parents[1]))
 
 from common import command
 from common.openssl import openssl
-from golden.golden_value import threefold
+from golden.xgolden_value import threefold
 from interop.certificate_fields import check
 
 FOLDER = Path("/usr/share/ca-certificates/mozilla")
@@ -51,7 +51,7 @@ def answers(program, found):
 def main(words):
     parser = argparse.ArgumentParser(description="Roots of the system.")
     parser.add_argument("--folder", type=Path, default=FOLDER)
-    parser.add_argument("program", type=Path, help="path of golden_certificate")
+    parser.add_argument("program", type=Path, help="path of xgolden_certificate")
     options = parser.parse_args(words)
     found = list(certificates(options.folder))
     differing, read = 0, []

@@ -15,7 +15,7 @@ here and openssl signs them.
 The second compares what `value_reader` says of each stored certificate with
 what `openssl x509` and Python's package `cryptography` say of it, field by
 field, and prints what each of them doesn't read.  The answers of the stored
-run of `golden_certificate` come from `value_reader`.
+run of `xgolden_certificate` come from `value_reader`.
 """
 
 import sys

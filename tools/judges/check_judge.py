@@ -1,4 +1,4 @@
-"""What a signature file is answered under a policy, step by step, as `golden_check` prints it.
+"""What a signature file is answered under a policy, step by step, as `xgolden_check` prints it.
 
 This judge exists to be compared with the project's own.  It goes on where
 `basic_judge` ends; whether one certificate may have issued another is what

@@ -1,5 +1,0 @@
-use Rattle.std.proofs.Common.{length}
-use Rattle.golden_der.proofs.answer.push_elements.Given as goal
-
-abbrev pub decreases-loop-elem : goal.decreases-loop-elem
-decreases-loop-elem l = length l.cursor.rest.now

@@ -1,0 +1,20 @@
+//! Dispatching test vectors.
+
+use crate::{errors, identifiers, strings, times};
+use std::alloc::Global;
+use xgolden::{Args, Line};
+
+/// Prints the output for a vector.
+pub fn print(alloc: Global, args: Args<'_>, line: &mut Line) {
+    match (args.words, args.octets) {
+        (["identifier", call, _], [_, _, Some(octets)]) => {
+            identifiers::print(alloc, call, octets, line)
+        }
+        (["string", call, _], [_, _, Some(octets)]) => strings::print(alloc, call, octets, line),
+        (["error", name], _) => errors::print(name, line),
+        (["time", call, words @ ..], [_, _, octets @ ..]) => {
+            times::print(alloc, call, Args { words, octets }, line)
+        }
+        _ => line.no_call(),
+    }
+}

@@ -1,0 +1,76 @@
+#!/usr/bin/env python3
+"""Make the files of the stored run of `xgolden_basic`.
+
+Usage:
+
+    python3 tools/golden/xgolden_basic.py FOLDER
+
+writes FOLDER/data/cases.txt and FOLDER/stdout, what is answered to the cases.
+A case is a line of words in hexadecimal digits, `-` for none: a signature file,
+the digest that is asked for, the text of a table, and any number of changes.  A
+change is a place in two octets and the octet that stands there instead, and each
+is made of the file alone: so a case is answered by a line for the file as it is,
+and one for each change.
+
+The cases are the rows of `basic_rows` and `basic_steps`, and those of
+`made_signatures` on signatures that are made, whose answers stand there, and the signatures of `basic_world`, whose answers `basic_judge` finds.
+What it finds of the rows has to be what stands there, and nothing is taken from
+what the program printed.
+"""
+
+import sys
+from pathlib import Path
+
+sys.path.insert(0, str(Path(__file__).resolve().parents[1]))
+
+from cases import basic_rows, basic_steps, basic_world, made_signatures
+from common import command
+from golden.stored_run import write_stored_run
+from judges.basic_judge import answer
+from judges.value_reader import word
+
+
+def rows():
+    """What each file is, its octets, the digest that is asked for, a table, and what is answered."""
+    yield from basic_rows.rows()
+    yield from basic_steps.rows()
+    yield from made_signatures.judged_rows()
+
+
+def cases():
+    """The words of each case, and what is answered."""
+    for _, file, file_hash, table, said in rows():
+        yield (file, bytes.fromhex(file_hash), table.encode()), [said]
+    for _, file, file_hash, table, changes, said in basic_world.rows():
+        words = (at.to_bytes(2, "big") + bytes([octet]) for at, octet in changes)
+        yield (file, bytes.fromhex(file_hash), table.encode(), *words), said
+
+
+def stored_files():
+    """The octets of each file, by its path below the folder."""
+    found = list(cases())
+    return {
+        "data/cases.txt": "".join(f"{' '.join(map(word, words))}\n" for words, _ in found).encode("ascii"),
+        "stdout": "".join(f"{line}\n" for _, said in found for line in said).encode(),
+    }
+
+
+def unlike():
+    """The rows of which the judge says otherwise."""
+    for why, file, file_hash, table, said in rows():
+        found = answer(file, bytes.fromhex(file_hash), table)
+        if found != said:
+            yield f"{why}: {said!r} isn't {found!r}"
+
+
+def main(arguments):
+    complaints = list(unlike())
+    if basic_rows.wrapped(basic_rows.encoded(basic_rows.LINES)) != basic_rows.FILE:
+        complaints.append("the lines are not those of the file")
+    for complaint in complaints:
+        print(f"xgolden_basic.py: {complaint}", file=sys.stderr)
+    return 1 if complaints else write_stored_run("xgolden_basic.py", stored_files, arguments)
+
+
+if __name__ == "__main__":
+    command.run(main, __doc__)
