@@ -113,7 +113,7 @@ module _ (judge : Judge) (policy : Policy) (f : SignedDataElements) where
 
   pub signer_met : (a : Accepted) → IsSignerVouched judge policy f a → AreMet (signer_rules judge policy f)
   signer_met a v =
-      let behind : AreMet (IsUndated policy ∷ standing_rules judge policy f) = (dated_met policy v.dated, standing_met v.bag v.place v.signer v.is a.path a.excuse v.stands) in
+      let behind : AreMet (IsUndated policy ∷ standing_rules judge policy f) = (dated_met policy v.dated, standing_met v.bag v.place v.signer v.is a.path a.excuse v.valid) in
       met_together (named_rules f) (IsUndated policy ∷ standing_rules judge policy f) (named_met f v.bag v.place v.signer.elements v.is.is_bag v.is.is_signer) behind
 
   pub same_accepted : (a b : Accepted) → a.signer ≡ b.signer → a.path ≡ b.path → a.excuse ≡ b.excuse → a ≡ b
@@ -122,6 +122,6 @@ module _ (judge : Judge) (policy : Policy) (f : SignedDataElements) where
   pub vouched_once : (a b : Accepted) → IsSignerVouched judge policy f a → IsSignerVouched judge policy f b → a ≡ b
   vouched_once a b v w =
       let place : v.place ≡ w.place = (signer_once f v.bag w.bag v.place w.place v.signer.elements w.signer.elements v.is.is_bag w.is.is_bag v.is.is_signer w.is.is_signer).0 in
-      let there = moved (λ (bag : List CertificateElements) (signer : KeptCertificate). IsStanding judge policy f bag signer b.path b.excuse) f w.bag v.bag w.place v.place w.signer v.signer w.is v.is w.stands in
-      let same = standing_once v.bag v.place v.signer v.is a.path b.path a.excuse b.excuse v.stands there in
-      same_accepted a b (v.told ∙ ap Some place ∙ sym w.told) same.0 same.1
+      let there = moved (λ (bag : List CertificateElements) (signer : KeptCertificate). IsStanding judge policy f bag signer b.path b.excuse) f w.bag v.bag w.place v.place w.signer v.signer w.is v.is w.valid in
+      let same = standing_once v.bag v.place v.signer v.is a.path b.path a.excuse b.excuse v.valid there in
+      same_accepted a b (v.place_is ∙ ap Some place ∙ sym w.place_is) same.0 same.1

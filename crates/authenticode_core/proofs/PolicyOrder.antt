@@ -80,10 +80,10 @@ module _ (judge : Judge) (policy : Policy) (f : SignedDataElements) where
 
   module _ (a b : Accepted) (t : IsTrusted judge policy f a) (u : IsTrusted judge policy f b) where
     same_places : IsBasicallyVouched judge given f a → IsBasicallyVouched judge given f b → a.signer ≡ b.signer
-    same_places v w = v.told ∙ ap Some (one_vouched_place f given judge v.place w.place (v.hash, v.given, v.vouches) (w.hash, w.given, w.vouches)) ∙ sym w.told
+    same_places v w = v.place_is ∙ ap Some (one_vouched_place f given judge v.place w.place (v.hash, v.given, v.vouches) (w.hash, w.given, w.vouches)) ∙ sym w.place_is
 
     same_listed : IsSignerListed policy f a → IsSignerListed policy f b → a.signer ≡ b.signer
-    same_listed v w = v.told ∙ ap Some (signer_once f v.bag w.bag v.place w.place v.certificate w.certificate v.is_bag w.is_bag v.is_signer w.is_signer).0 ∙ sym w.told
+    same_listed v w = v.place_is ∙ ap Some (signer_once f v.bag w.bag v.place w.place v.certificate w.certificate v.is_bag w.is_bag v.is_signer w.is_signer).0 ∙ sym w.place_is
 
     unasked : policy.signing ≡ false → a.signer ≡ b.signer → a ≡ b
     unasked off signer = same_accepted judge policy f a b signer ((t.pathless off).0 ∙ sym (u.pathless off).0) ((t.pathless off).1 ∙ sym (u.pathless off).1)
@@ -128,13 +128,13 @@ module _ (judge : Judge) (policy : Policy) (f : SignedDataElements) where
   -- ---- acceptance
 
   placed : (b : Bool) (told : Option ℕ) (a : Accepted) → IsPlaceAsked b judge given f told → b ≡ true → ((place : ℕ) → IsVouchedAt judge given f place → told ≡ Some place → a.signer ≡ Some place) → IsBasicallyVouched judge given f a
-  placed true told a at on signer = record { hash = at.1.0; given = at.1.1; place = at.0; vouches = at.1.2; told = signer at.0 at.1 at.2 }
+  placed true told a at on signer = record { hash = at.1.0; given = at.1.1; place = at.0; vouches = at.1.2; place_is = signer at.0 at.1 at.2 }
   placed false told a at on signer = absurd (cc on)
 
   same_signer : (a : Accepted) → (v : IsSignerVouched judge policy f a) → (place : ℕ) → IsVouchedAt judge given f place → a.signer ≡ Some place
   same_signer a v place at =
       let s = at.2.signed in
-      v.told ∙ ap Some (signer_once f v.bag s.bag v.place place v.signer.elements s.certificate v.is.is_bag s.is_bag v.is.is_signer s.is_signer).0
+      v.place_is ∙ ap Some (signer_once f v.bag s.bag v.place place v.signer.elements s.certificate v.is.is_bag s.is_bag v.is.is_signer s.is_signer).0
 
   unplaced : (b : Bool) (told : Option ℕ) → IsPlaceAsked b judge given f told → b ≡ false → told ≡ None
   unplaced true told at off = absurd (cc off)
@@ -160,7 +160,7 @@ module _ (judge : Judge) (policy : Policy) (f : SignedDataElements) where
 
   -- the reported index is that of the signer's certificate
   pub told_is_signers : (b : Bool) (told : Option ℕ) (a : Accepted) → IsSignerAsked b judge policy f told a → IfSome told (HasSignerAt f) → IfSome a.signer (HasSignerAt f)
-  told_is_signers true told a v has = subst (λ (t : Option ℕ). IfSome t (HasSignerAt f)) (sym v.told) (v.signer.elements, (v.bag, v.is.is_bag, v.is.is_signer))
+  told_is_signers true told a v has = subst (λ (t : Option ℕ). IfSome t (HasSignerAt f)) (sym v.place_is) (v.signer.elements, (v.bag, v.is.is_bag, v.is.is_signer))
   told_is_signers false told a v has = subst (λ (t : Option ℕ). IfSome t (HasSignerAt f)) (sym v.0) has
 
   pub signer_refuses : (told : Option ℕ) → IsPlaceAsked policy.basic judge given f told → (e : AuthenticodeError) → RefusesAuthenticodeBy signer_part e → RefusesAuthenticodeBy (policy_rules judge policy f) e

@@ -336,7 +336,7 @@ module _ (judge : Judge) (policy : Policy) (f : SignedDataElements) where
 
     pub vouched_or_not : IsDated (policy_checks policy) → (r : Result Accepted AuthenticodeError)
         → MatchResult r (λ a. (a.signer ≡ Some place) × IsStanding judge policy f bag signer a.path a.excuse) (RefusesAuthenticodeBy (standing_rules judge policy f)) → MatchResult r (IsSignerVouched judge policy f) (RefusesAuthenticodeBy (signer_rules judge policy f))
-    vouched_or_not dated (Ok a) h = record { bag = bag; place = place; signer = signer; is = is; told = h.0; dated = dated; stands = h.1 }
+    vouched_or_not dated (Ok a) h = record { bag = bag; place = place; signer = signer; is = is; place_is = h.0; dated = dated; valid = h.1 }
     vouched_or_not dated (Err e) h = not_standing place signer.elements e (bag, is.is_bag, is.is_signer) dated h
 
 -- the stored certificate of the signer

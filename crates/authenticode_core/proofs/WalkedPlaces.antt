@@ -31,7 +31,7 @@ pub record Walked (bag : List CertificateElements) (subject : DerElement) (walk 
   pub next : DerElement
   pub looks : LooksFrom walk bag from next
   pub joined : (rest : List ℕ) → IsWalkFrom bag from next rest → IsWalkFrom bag 0 subject (places ++ rest)
-  pub told : IsTrue asks ↔ HasPurposesAmong bag places
+  pub asks_is : IsTrue asks ↔ HasPurposesAmong bag places
 
 none_among : (bag : List CertificateElements) → HasPurposesAmong bag [] → ⊥
 none_among bag h = let among = h.among in omega (arith, among.1)
@@ -43,7 +43,7 @@ walked_none bag subject walk looks = record {
   next = subject;
   looks = looks;
   joined = λ rest w. w;
-  told = (λ w. absurd cc, λ h. absurd (none_among bag h));
+  asks_is = (λ w. absurd cc, λ h. absurd (none_among bag h));
 }
 
 -- ---- one more index
@@ -92,9 +92,9 @@ walked_more bag subject walk next asks asks' c w stands fits looks asked = recor
   next = c.tbs.issuer;
   looks = looks;
   joined = joined_more bag subject w.next w.places w.from w.from c (least_here bag (HasSubject w.next) w.from c stands fits) w.joined;
-  told = (
-    λ t. told_more bag w.places w.from c asks stands w.told.0 (asked.0 t),
-    λ h. asked.1 (told_back bag w.places w.from c asks stands w.told.1 h (Contains-append_cases w.places (w.from ∷ []) h.place h.among)),
+  asks_is = (
+    λ t. told_more bag w.places w.from c asks stands w.asks_is.0 (asked.0 t),
+    λ h. asked.1 (told_back bag w.places w.from c asks stands w.asks_is.1 h (Contains-append_cases w.places (w.from ∷ []) h.place h.among)),
   );
 }
 
@@ -129,7 +129,7 @@ walked_past bag subject walk next asks asks' c w stands other looks same = recor
   next = w.next;
   looks = looks;
   joined = λ rest further. w.joined rest (behind bag w.next w.from c rest stands other further);
-  told = subst (λ (b : Bool). IsTrue b ↔ HasPurposesAmong bag w.places) (sym same) w.told;
+  asks_is = subst (λ (b : Bool). IsTrue b ↔ HasPurposesAmong bag w.places) (sym same) w.asks_is;
 }
 
 pub walked_step : (bag : List CertificateElements) (subject : DerElement) (walk next : IssuerWalk) (asks asks' on_walk : Bool) (c : CertificateElements) (w : Walked bag subject walk asks) → StandsAt bag w.from c
@@ -144,9 +144,9 @@ pub walked_all : (bag : List CertificateElements) (signer : CertificateElements)
 walked_all bag signer walk asks ends w =
     let whole : IsIssuerWalk bag signer w.places = subst (λ (ps : List ℕ). IsWalkFrom bag 0 signer.tbs.subject ps) (append-nil w.places) (w.joined [] (ends w.from w.next w.looks)) in (
       λ t.
-          let h = w.told.0 t in
+          let h = w.asks_is.0 t in
           record { places = w.places; walk = whole; place = h.place; among = h.among; c = h.c; stands = h.stands; purposes = h.purposes },
-      λ asked. w.told.1 (record {
+      λ asked. w.asks_is.1 (record {
         place = asked.place;
         among = subst (λ (ps : List ℕ). Contains ps asked.place) (one_walk bag signer asked.places w.places asked.walk whole) asked.among;
         c = asked.c;

@@ -57,9 +57,9 @@ pub record IsSignerVouched (judge : Judge) (policy : Policy) (f : SignedDataElem
   pub place : ℕ
   pub signer : KeptCertificate
   pub is : IsKeptSigner f bag place signer
-  pub told : a.signer ≡ Some place
+  pub place_is : a.signer ≡ Some place
   pub dated : IsDated (policy_checks policy)
-  pub stands : IsStanding judge policy f bag signer a.path a.excuse
+  pub valid : IsStanding judge policy f bag signer a.path a.excuse
 
 -- ---- rules, by what breaks them
 

@@ -24,7 +24,7 @@ pub record IsBasicallyVouched (judge : Judge) (file_hash : Option (List ℕ)) (f
   pub given : file_hash ≡ Some hash
   pub place : ℕ
   pub vouches : VouchesFor judge f hash place
-  pub told : a.signer ≡ Some place
+  pub place_is : a.signer ≡ Some place
 
 -- The signed data is trusted under the policy, and this is reported of it.
 pub record IsTrusted (judge : Judge) (policy : Policy) (f : SignedDataElements)

@@ -185,7 +185,7 @@ module _ (judge : Judge) (p : Program) (first : CertificateElements) (others : L
 
 pub trusted : (judge : Judge) (policy : Policy) (f : SignedDataElements) (file_hash : List ℕ) → IsBasicAlone policy file_hash → VouchesFor judge f file_hash 0 → IsTrusted judge policy f by_the_first
 trusted judge policy f file_hash asked vouched = record {
-  basic = λ on. record { hash = file_hash; given = asked.given; place = 0; vouches = vouched; told = refl };
+  basic = λ on. record { hash = file_hash; given = asked.given; place = 0; vouches = vouched; place_is = refl };
   signing = λ on. absurd (cc (on, asked.signing));
   listed = λ on.
       let s = vouched.signed in

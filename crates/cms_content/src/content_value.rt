@@ -147,7 +147,7 @@ impl PartialEq for ContentValue {
         (partial_equiv_from_equiv nat_list_eq_equiv) };
 
     fn eq(&self, other: &ContentValue) -> bool
-        ensures told { result ≡ bytes_eq (content_octets self.now) (content_octets other.now) }
+        ensures compared { result ≡ bytes_eq (content_octets self.now) (content_octets other.now) }
         ensures same { IsTrue result ↔ (self.now ≡ other.now) }
     {
         match (self, other) {

@@ -105,7 +105,7 @@ pub sec1_own : (derives : Derivation) (octets : List ℕ) (read : ECPrivateKey) 
     → (r : Result PrivateKey KeyError)
     → MatchResult r (λ key. (curve : ObjectIdentifier) × (read.parameters ≡ Some curve) × IsCurveKey derives curve read key) (IsEcRefusal (RefusesOwnCurve derives read.parameters read))
     → MatchResult r (IsSec1Key derives octets) (RefusesSec1 (λ x. RefusesOwnCurve derives x.parameters x) octets)
-sec1_own derives octets read within (Ok key) made = record { curve = made.0; read = read; within = within; stands = made.1; is = made.2 }
+sec1_own derives octets read within (Ok key) made = record { curve = made.0; read = read; within = within; present = made.1; is = made.2 }
 sec1_own derives octets read within (Err e) refused = refused_sec1 (λ x. RefusesOwnCurve derives x.parameters x) octets read within e refused
 
 pub sec1_known : (derives : Derivation) (curve : EcCurve) (octets : List ℕ) (read : ECPrivateKey) → IsWithin IsECPrivateKey octets read

@@ -102,7 +102,7 @@ pub record IsSec1Key (derives : Derivation) (octets : List ℕ) (key : PrivateKe
   pub curve : ObjectIdentifier
   pub read : ECPrivateKey
   pub within : IsWithin IsECPrivateKey octets read
-  pub stands : read.parameters ≡ Some curve
+  pub present : read.parameters ≡ Some curve
   pub is : IsCurveKey derives curve read key
 
 -- The same on a supported curve.

@@ -24,5 +24,5 @@ pub record IsGivenEdKey (algorithm : ObjectIdentifier) (secret : List ℕ)
   pub parameters : parameters_of key.info.private_key_algorithm ≡ None
   pub is : key.info.private_key ≡ values.Ed secret
   pub attributes : key.info.attributes ≡ None
-  pub stands : key.info.public_key ≡ key.public_key
+  pub present : key.info.public_key ≡ key.public_key
   pub public_is : option_map bit_string_contents key.public_key ≡ option_map whole_bits public_key

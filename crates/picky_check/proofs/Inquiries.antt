@@ -36,7 +36,7 @@ contents_once files [] (octets ∷ contents) b t x y = absurd x
 contents_once files (name ∷ names) [] b t x y = absurd x
 contents_once files (name ∷ names) (octets ∷ contents) [] t x y = absurd y
 contents_once files (name ∷ names) (octets ∷ contents) (other ∷ others) t x y =
-    let first = same_file (file_of files name) octets other (x.0.as_told t) (y.0.as_told t) in
+    let first = same_file (file_of files name) octets other (x.0.as_exposed t) (y.0.as_exposed t) in
     let behind = contents_once files names contents others t x.1 y.1 in
     cc
 

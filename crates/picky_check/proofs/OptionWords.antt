@@ -15,7 +15,7 @@ no_words option.NoAfter rest begins = absurd cc
 no_words option.NoChain rest begins = absurd cc
 
 pub none_are : AreOptions [] no_options
-none_are = record { options = []; are_words = refl; once = tt; stand = refl }
+none_are = record { options = []; are_words = refl; once = tt; is = refl }
 
 of_none : (options : List CheckOption) → AreWordsOf options [] → standing options ≡ no_options
 of_none [] are = refl
@@ -23,7 +23,7 @@ of_none (o ∷ others) are = absurd (no_words o are.0 are.1)
 
 -- no words are no options
 pub only_none : (o : CheckOptions) → AreOptions [] o → o ≡ no_options
-only_none o h = h.stand ∙ of_none h.options h.are_words
+only_none o h = h.is ∙ of_none h.options h.are_words
 
 -- The words begin with an option, and these follow it.
 pub record AreSplit (words : List (List ℕ)) (o : CheckOptions) : Type 0 where
@@ -33,31 +33,31 @@ pub record AreSplit (words : List (List ℕ)) (o : CheckOptions) : Type 0 where
   pub begins : BeginsWithOption first words rest
   pub are_others : AreOptions rest others
   pub absent : IsAbsent first others
-  pub stand : o ≡ with_option first others
+  pub is : o ≡ with_option first others
 
 split_options : (word : List ℕ) (words : List (List ℕ)) (o : CheckOptions) (options : List CheckOption) → AreWordsOf options (word ∷ words) → AreOnce options
     → o ≡ standing options → AreSplit (word ∷ words) o
-split_options word words o [] are once stand = absurd cc
-split_options word words o (first ∷ others) are once stand = record {
+split_options word words o [] are once is = absurd cc
+split_options word words o (first ∷ others) are once is = record {
   first = first;
   rest = are.0;
   others = standing others;
   begins = are.1;
-  are_others = record { options = others; are_words = are.2; once = once.1; stand = refl };
+  are_others = record { options = others; are_words = are.2; once = once.1; is = refl };
   absent = once.0;
-  stand = stand;
+  is = is;
 }
 
 pub split : (word : List ℕ) (words : List (List ℕ)) (o : CheckOptions) → AreOptions (word ∷ words) o → AreSplit (word ∷ words) o
-split word words o h = split_options word words o h.options h.are_words h.once h.stand
+split word words o h = split_options word words o h.options h.are_words h.once h.is
 
 pub joined : (words rest : List (List ℕ)) (first : CheckOption) (others o : CheckOptions) → BeginsWithOption first words rest → AreOptions rest others → IsAbsent first others
     → o ≡ with_option first others → AreOptions words o
-joined words rest first others o begins h absent stand = record {
+joined words rest first others o begins h absent is = record {
   options = first ∷ h.options;
   are_words = (rest, begins, h.are_words);
-  once = (subst (IsAbsent first) h.stand absent, h.once);
-  stand = stand ∙ ap (with_option first) h.stand;
+  once = (subst (IsAbsent first) h.is absent, h.once);
+  is = is ∙ ap (with_option first) h.is;
 }
 
 -- ---- options that were read, and the rest
@@ -178,7 +178,7 @@ module _ (words rest : List (List ℕ)) (read : CheckOptions) (h : AreRead words
     next all is = let l = h.left all is in split word behind l.0 (subst (λ (r : List (List ℕ)). AreOptions r l.0) are l.1)
 
     together : (all : CheckOptions) (is : AreOptions words all) → AreTogether read (with_option (next all is).first (next all is).others) all
-    together all is = subst (λ (o : CheckOptions). AreTogether read o all) (next all is).stand (h.left all is).2
+    together all is = subst (λ (o : CheckOptions). AreTogether read o all) (next all is).is (h.left all is).2
 
     -- if the rest begins with no option
     pub none_next : ((first : CheckOption) (others : List (List ℕ)) → BeginsWithOption first (word ∷ behind) others → ⊥) → (all : CheckOptions) → AreOptions words all → ⊥

@@ -38,15 +38,15 @@ no_file : (o : Option (List ℕ)) (octets : List ℕ) → o ≡ None → o ≡ S
 no_file o octets none some = absurd cc
 
 pub has_file : (files : Option Files) (name octets : List ℕ) → IsSome files → IsWholeFile files name octets → IsSome (file_of files name)
-has_file files name octets told whole = some_there (file_of files name) octets (whole.as_told told)
+has_file files name octets exposed whole = some_there (file_of files name) octets (whole.as_exposed exposed)
 
 pub not_long : (files : Option Files) (name octets : List ℕ) → IsWholeFile files name octets → IsLongFile files name → ⊥
 not_long files name octets whole long =
-    let same = same_file (file_of files name) long.0 octets long.1 (whole.as_told (tells files name long.0 long.1)) in
+    let same = same_file (file_of files name) long.0 octets long.1 (whole.as_exposed (tells files name long.0 long.1)) in
     omega (arith, long.2, whole.short, ap length same)
 
 pub not_missing : (files : Option Files) (name octets : List ℕ) → IsWholeFile files name octets → IsMissingFile files name → ⊥
-not_missing files name octets whole m = no_file (file_of files name) octets m.none (whole.as_told m.told)
+not_missing files name octets whole m = no_file (file_of files name) octets m.none (whole.as_exposed m.exposed)
 
 -- files of a shelf that exposes the same ones
 pub whole_along : (files others : Option Files) (names contents : List (List ℕ)) → files ≡ others → AreWholeFiles files names contents → AreWholeFiles others names contents
@@ -79,7 +79,7 @@ module _ (before between after : ShelfState) (name : List ℕ) (names : List (Li
   long_ahead long missing [] behind other are m l =
       absurd (fault_is_no_length e (missing (subst (IsMissingFile before.files) (sym (first_is name other names behind are)) m)) l)
   long_ahead long missing (one ∷ ahead) behind other are m l =
-      (0, one, omega arith, refl, subst (IsLongFile before.files) (first_is name one names (ahead ++ other ∷ behind) are) (long l m.told))
+      (0, one, omega arith, refl, subst (IsLongFile before.files) (first_is name one names (ahead ++ other ∷ behind) are) (long l m.exposed))
 
   -- the first exists, if it is too long, or earlier than one that is
   there_first : (ahead behind : List (List ℕ)) (other : List ℕ) → name ∷ names ≡ ahead ++ other ∷ behind

@@ -41,7 +41,7 @@ module _ (words : List (List ℕ)) (shelf shelf_now : ShelfState) (signature tab
       holds = holds;
       one = λ other has. one_signed_data octets other f has holds;
       place = basic.place;
-      place_is = basic.told;
+      place_is = basic.place_is;
       vouches = of_hash (verdict_of rows) f hash accepted basic;
     }
 

@@ -9,7 +9,7 @@ longest_file = 16777216
 
 -- These octets are the whole file with this name, as far as the shelf exposes its files.
 pub record IsWholeFile (files : Option Files) (name octets : List ℕ) : Type 0 where
-  pub as_told : IsSome files → file_of files name ≡ Some octets
+  pub as_exposed : IsSome files → file_of files name ≡ Some octets
   pub short : length octets ≤ longest_file
 
 -- The shelf exposes a file with this name that is too long.
@@ -19,7 +19,7 @@ IsLongFile files name = (file : List ℕ) × (file_of files name ≡ Some file)
 
 -- The shelf exposes its files, and none has this name.
 pub record IsMissingFile (files : Option Files) (name : List ℕ) : Type 0 where
-  pub told : IsSome files
+  pub exposed : IsSome files
   pub none : file_of files name ≡ None
 
 -- ---- several files, in order

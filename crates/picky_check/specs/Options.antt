@@ -62,4 +62,4 @@ pub record AreOptions (words : List (List ℕ)) (o : CheckOptions) : Type 0 wher
   pub options : List CheckOption
   pub are_words : AreWordsOf options words
   pub once : AreOnce options
-  pub stand : o ≡ standing options
+  pub is : o ≡ standing options

@@ -73,7 +73,7 @@ impl CheckOptions {
 
 /// Parses the words as options. None exactly if they aren't options, each at most once.
 pub(crate) fn options_of(words: &[String]) -> Option<CheckOptions>
-    ensures stand { MatchOption result
+    ensures answer { MatchOption result
         ((options : OptionsOfCheck) → AreOptions (map string_bytes words.now) options → ⊥)
         (AreOptions (map string_bytes words.now)) }
     ensures only { (options : OptionsOfCheck) → AreOptions (map string_bytes words.now) options

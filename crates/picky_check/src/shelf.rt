@@ -31,7 +31,7 @@ pub trait Shelf {
         ensures picked { OnOk result (IsSome (state self.old).files
             → IsPicked (state self.old).files name.now (state self.new).rest) }
         ensures same { (state self.new).files ≡ (state self.old).files }
-        ensures told { IsSome (state self.old).rest → IsSome (state self.new).rest }
+        ensures exposed { IsSome (state self.old).rest → IsSome (state self.new).rest }
         ensures none_given { (state self.new).given ≡ (state self.old).given }
         ensures kept { GoesOn (state self.old).given (state self.new).given }
         ensures counted { GoesOn (state self.old).faults (state self.new).faults }
@@ -47,7 +47,7 @@ pub trait Shelf {
         ensures moved { IfOk result (λ n. (before : List ℕ) → (state self.old).rest ≡ Some before
             → Moves n before into.new (state self.new).rest) }
         ensures same { (state self.new).files ≡ (state self.old).files }
-        ensures told { IsSome (state self.old).rest → IsSome (state self.new).rest }
+        ensures exposed { IsSome (state self.old).rest → IsSome (state self.new).rest }
         ensures given { IfOk result (λ n. RisesBy n (state self.old).given (state self.new).given) }
         ensures none_given { OnErr result ((state self.new).given ≡ (state self.old).given) }
         ensures kept { GoesOn (state self.old).given (state self.new).given }

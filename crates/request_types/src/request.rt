@@ -114,7 +114,7 @@ impl PartialEq for CertificationRequest {
     fn eq(&self, other: &CertificationRequest) -> bool
         ensures octets { AreDer (inner_of_request self.now) → AreDer (inner_of_request other.now)
             → result ≡ same_octets request self.now other.now }
-        ensures told { result ≡ bytes_eq (request_octets self.now) (request_octets other.now) }
+        ensures compared { result ≡ bytes_eq (request_octets self.now) (request_octets other.now) }
         ensures same { IsTrue result ↔ (self.now ≡ other.now) }
     {
         self.certification_request_info == other.certification_request_info

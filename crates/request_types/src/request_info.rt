@@ -226,7 +226,7 @@ impl PartialEq for CertificationRequestInfo {
     fn eq(&self, other: &CertificationRequestInfo) -> bool
         ensures octets { AreDer (inner_request self.now) → AreDer (inner_request other.now)
             → result ≡ same_octets request_info self.now other.now }
-        ensures told { result ≡ bytes_eq (request_info_octets self.now)
+        ensures compared { result ≡ bytes_eq (request_info_octets self.now)
             (request_info_octets other.now) }
         ensures same { IsTrue result ↔ (self.now ≡ other.now) }
     {

@@ -136,7 +136,8 @@ impl PartialEq for Attribute {
         ensures octets { AreDer (inner_values self.now.value)
             → AreDer (inner_values other.now.value)
             → result ≡ same_octets attribute self.now other.now }
-        ensures told { result ≡ bytes_eq (attribute_octets self.now) (attribute_octets other.now) }
+        ensures compared { result ≡ bytes_eq (attribute_octets self.now)
+            (attribute_octets other.now) }
         ensures same { IsTrue result ↔ (self.now ≡ other.now) }
     {
         self.ty == other.ty && self.value == other.value

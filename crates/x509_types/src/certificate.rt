@@ -102,7 +102,7 @@ impl PartialEq for Certificate {
     fn eq(&self, other: &Certificate) -> bool
         ensures octets { AreDer (inner_certificate self.now) → AreDer (inner_certificate other.now)
             → result ≡ same_octets certificate self.now other.now }
-        ensures told { result ≡ bytes_eq (certificate_octets self.now)
+        ensures compared { result ≡ bytes_eq (certificate_octets self.now)
             (certificate_octets other.now) }
         ensures same { IsTrue result ↔ (self.now ≡ other.now) }
     {

@@ -324,7 +324,8 @@ impl PartialEq for Extension {
         ensures octets { AreDer (inner_value self.now.extn_value)
             → AreDer (inner_value other.now.extn_value)
             → result ≡ same_octets extension self.now other.now }
-        ensures told { result ≡ bytes_eq (extension_octets self.now) (extension_octets other.now) }
+        ensures compared { result ≡ bytes_eq (extension_octets self.now)
+            (extension_octets other.now) }
         ensures same { IsTrue result ↔ (self.now ≡ other.now) }
     {
         self.has_same_id_and_flag(other) && self.extn_value == other.extn_value

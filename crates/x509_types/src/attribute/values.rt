@@ -132,7 +132,7 @@ impl PartialEq for AttributeValues {
         (partial_equiv_from_equiv nat_list_eq_equiv) };
 
     fn eq(&self, other: &AttributeValues) -> bool
-        ensures told { result ≡ bytes_eq (values_octets self.now) (values_octets other.now) }
+        ensures compared { result ≡ bytes_eq (values_octets self.now) (values_octets other.now) }
         ensures same { IsTrue result ↔ (self.now ≡ other.now) }
     {
         match (self, other) {

@@ -134,7 +134,7 @@ impl PartialEq for TbsCertificate {
     fn eq(&self, other: &TbsCertificate) -> bool
         ensures octets { AreDer (inner_tbs self.now) → AreDer (inner_tbs other.now)
             → result ≡ same_octets tbs_certificate self.now other.now }
-        ensures told { result ≡ bytes_eq (tbs_octets self.now) (tbs_octets other.now) }
+        ensures compared { result ≡ bytes_eq (tbs_octets self.now) (tbs_octets other.now) }
         ensures same { IsTrue result ↔ (self.now ≡ other.now) }
     {
         self.has_same_options(other)

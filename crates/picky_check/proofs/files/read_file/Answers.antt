@@ -12,7 +12,7 @@ loop-piece-init g c =
     record {
       within = omega (arith, ap length none);
       size = length-replicate {A = ℕ} 16384 0;
-      read = λ told. rw none (reads_nothing _ _ _ (c.in_ok-pick.ensures.picked told));
+      read = λ exposed. rw none (reads_nothing _ _ _ (c.in_ok-pick.ensures.picked exposed));
       given = rw none (rises_none _ _ c.pick.ensures.none_given);
       kept = c.pick.ensures.kept;
       counted = c.pick.ensures.counted;
@@ -45,8 +45,8 @@ returns-then-count-eq0-clause-once g c = none_failed (stands c.in_ok-count.ensur
 
 pub returns-then-count-eq0-clause-whole : goal.returns-then-count-eq0-clause-whole
 returns-then-count-eq0-clause-whole g c = record {
-  as_told = λ told.
-      let read = c.loop-piece.invariant.read told in
+  as_exposed = λ exposed.
+      let read = c.loop-piece.invariant.read exposed in
       let moves = c.in_ok-count.ensures.moved read.left read.rest_is in
       let some : 0 < length c.read.new.into =
       omega (arith, c.read.auto.into, length-take c.min-most.result c.loop-piece.piece, c.loop-piece.invariant.size, c.min-most.ensures, c.len-in-loop-piece.ensures, c.len.ensures, c.loop-piece-test.true) in
@@ -73,8 +73,8 @@ loop-piece-preserved g c =
     record {
       within = omega (arith, size, c.in_ok-count.ensures.bound, length-take c.min-most.result c.loop-piece.piece, c.min-most.ensures, c.len-in-loop-piece.ensures, c.len.ensures, c.loop-piece-test.true);
       size = omega (arith, length-append c.read.new.into (drop c.min-most.result c.loop-piece.piece), length-drop c.min-most.result c.loop-piece.piece, c.read.auto.into, length-take c.min-most.result c.loop-piece.piece, c.loop-piece.invariant.size, c.min-most.ensures);
-      read = λ told.
-          let read = c.loop-piece.invariant.read told in
+      read = λ exposed.
+          let read = c.loop-piece.invariant.read exposed in
           let moves = c.in_ok-count.ensures.moved read.left read.rest_is in
           rw items (reads_more _ _ _ _ _ _ _ _ read moves front);
       given = rw size (rises_more _ _ _ _ _ c.loop-piece.invariant.given c.in_ok-count.ensures.given);
@@ -95,8 +95,8 @@ pub returns-clause-once : goal.returns-clause-once
 returns-clause-once g c = none_failed c.loop-piece.invariant.still
 
 pub returns-clause-too_long : goal.returns-clause-too_long
-returns-clause-too_long g c _ told =
-    reads_too_much _ _ _ _ (c.loop-piece.invariant.read told) (omega (arith, c.loop-piece-test.false, c.len.ensures))
+returns-clause-too_long g c _ exposed =
+    reads_too_much _ _ _ _ (c.loop-piece.invariant.read exposed) (omega (arith, c.loop-piece-test.false, c.len.ensures))
 
 pub returns-clause-more_given : goal.returns-clause-more_given
 returns-clause-more_given g c _ =

@@ -3,17 +3,17 @@ use Rattle.picky_check.proofs.AskedWords.{behind, words_are}
 use Rattle.picky_check.proofs.OptionWords.{all_read, only_read, none_next, not_again, nothing_left, one_more}
 use Rattle.picky_check.proofs.options.options_of.Goals as goal
 
-pub returns-in_default-first_option-clause-stand : goal.returns-in_default-first_option-clause-stand
-returns-in_default-first_option-clause-stand c =
+pub returns-in_default-first_option-clause-answer : goal.returns-in_default-first_option-clause-answer
+returns-in_default-first_option-clause-answer c =
     let are = words_are string_bytes c.loop-rest.rest.now c.word-item.result c.as_str.result.now c.in-len1-up.len_at_least c.word-item.is (sym c.as_str.ensures.value) in
     none_next (map string_bytes c.args.words.now) (map string_bytes c.loop-rest.rest.now) c.loop-rest.options c.loop-rest.invariant
     c.as_str.result.now (map string_bytes (behind c.loop-rest.rest.now)) are c.in_default-first_option.ensures.only
 
 pub returns-in_default-first_option-clause-only : goal.returns-in_default-first_option-clause-only
-returns-in_default-first_option-clause-only c all is = absurd (returns-in_default-first_option-clause-stand c all is)
+returns-in_default-first_option-clause-only c all is = absurd (returns-in_default-first_option-clause-answer c all is)
 
-pub returns-in_err-options-clause-stand : goal.returns-in_err-options-clause-stand
-returns-in_err-options-clause-stand c =
+pub returns-in_err-options-clause-answer : goal.returns-in_err-options-clause-answer
+returns-in_err-options-clause-answer c =
     let are = words_are string_bytes c.loop-rest.rest.now c.word-item.result c.as_str.result.now c.in-len1-up.len_at_least c.word-item.is (sym c.as_str.ensures.value) in
     rw c.from_residual.ensures (not_again (map string_bytes c.args.words.now) (map string_bytes c.loop-rest.rest.now) c.loop-rest.options c.loop-rest.invariant
     c.as_str.result.now (map string_bytes (behind c.loop-rest.rest.now)) are c.in-Some.field-0.option (map string_bytes c.in-Some.field-0.behind.now)
@@ -34,8 +34,8 @@ loop-rest-preserved c =
     c.as_str.result.now (map string_bytes (behind c.loop-rest.rest.now)) are c.in-Some.field-0.option (map string_bytes c.in-Some.field-0.behind.now)
     c.in-Some.ensures.only new.0 c.in-Some.ensures.first)
 
-pub returns-clause-stand : goal.returns-clause-stand
-returns-clause-stand c =
+pub returns-clause-answer : goal.returns-clause-answer
+returns-clause-answer c =
     all_read (map string_bytes c.args.words.now) (map string_bytes c.loop-rest.rest.now) c.loop-rest.options c.loop-rest.invariant
     (nothing_left string_bytes c.loop-rest.rest.now c.in_default.len_below)
 

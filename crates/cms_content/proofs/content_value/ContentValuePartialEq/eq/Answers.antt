@@ -10,5 +10,5 @@ use Rattle.cms_content.proofs.content_value.ContentValuePartialEq.eq.Goals as go
 by_octets : (a b : ContentValue) (t : Bool) → (IsTrue t ↔ (a ≡ b)) → t ≡ bytes_eq (content_octets a) (content_octets b)
 by_octets = told_decide
 
-pub returns-in-Data-Data-clause-told : goal.returns-in-Data-Data-clause-told
-returns-in-Data-Data-clause-told c = by_octets _ _ _ (same_whole contents.Data (λ a b e. cc) _ _ _ _ _ c.in-Data-Data.is-0 c.in-Data-Data.is-1 c.eq-in-Data-Data.ensures.same)
+pub returns-in-Data-Data-clause-compared : goal.returns-in-Data-Data-clause-compared
+returns-in-Data-Data-clause-compared c = by_octets _ _ _ (same_whole contents.Data (λ a b e. cc) _ _ _ _ _ c.in-Data-Data.is-0 c.in-Data-Data.is-1 c.eq-in-Data-Data.ensures.same)

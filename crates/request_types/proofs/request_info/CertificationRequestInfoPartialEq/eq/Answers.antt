@@ -5,14 +5,14 @@ use Rattle.x509_types.specs.Facts.ToldExtensions.{told_decide}
 use Rattle.request_types.specs.Facts.Requests.{request_infos, request_infos_by_octets}
 use Rattle.request_types.proofs.request_info.CertificationRequestInfoPartialEq.eq.Goals as goal
 
-pub returns-then-eq-2-clause-told : goal.returns-then-eq-2-clause-told
-returns-then-eq-2-clause-told c = told_decide request_info_octets request_infos_by_octets c.args.self.now c.args.other.now _ (search rules)
+pub returns-then-eq-2-clause-compared : goal.returns-then-eq-2-clause-compared
+returns-then-eq-2-clause-compared c = told_decide request_info_octets request_infos_by_octets c.args.self.now c.args.other.now _ (search rules)
 
 pub returns-then-eq-2-clause-octets : goal.returns-then-eq-2-clause-octets
 returns-then-eq-2-clause-octets c = writable_decide IsRequestInfo request_info inner_request request_infos c.args.self.now c.args.other.now _ (search rules)
 
-pub returns-else-eq-2-clause-told : goal.returns-else-eq-2-clause-told
-returns-else-eq-2-clause-told c = told_decide request_info_octets request_infos_by_octets c.args.self.now c.args.other.now _ (search rules)
+pub returns-else-eq-2-clause-compared : goal.returns-else-eq-2-clause-compared
+returns-else-eq-2-clause-compared c = told_decide request_info_octets request_infos_by_octets c.args.self.now c.args.other.now _ (search rules)
 
 pub returns-else-eq-2-clause-octets : goal.returns-else-eq-2-clause-octets
 returns-else-eq-2-clause-octets c = writable_decide IsRequestInfo request_info inner_request request_infos c.args.self.now c.args.other.now _ (search rules)

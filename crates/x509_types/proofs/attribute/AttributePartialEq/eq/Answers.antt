@@ -14,14 +14,14 @@ by_value a b t ty value = (λ w. same_attribute a b ty (value.0 w), λ e. value.
 pub returns-then-eq-clause-same : goal.returns-then-eq-clause-same
 returns-then-eq-clause-same c = by_value c.args.self.now c.args.other.now _ (c.eq.ensures.same.0 c.if-eq.true) c.eq-then-eq.ensures.same
 
-pub returns-then-eq-clause-told : goal.returns-then-eq-clause-told
-returns-then-eq-clause-told c = told_decide attribute_octets attributes_by_octets c.args.self.now c.args.other.now _ (by_value c.args.self.now c.args.other.now _ (c.eq.ensures.same.0 c.if-eq.true) c.eq-then-eq.ensures.same)
+pub returns-then-eq-clause-compared : goal.returns-then-eq-clause-compared
+returns-then-eq-clause-compared c = told_decide attribute_octets attributes_by_octets c.args.self.now c.args.other.now _ (by_value c.args.self.now c.args.other.now _ (c.eq.ensures.same.0 c.if-eq.true) c.eq-then-eq.ensures.same)
 
 pub returns-then-eq-clause-octets : goal.returns-then-eq-clause-octets
 returns-then-eq-clause-octets c = writable_decide IsAttribute attribute (λ a. inner_values a.value) attributes c.args.self.now c.args.other.now _ (by_value c.args.self.now c.args.other.now _ (c.eq.ensures.same.0 c.if-eq.true) c.eq-then-eq.ensures.same)
 
-pub returns-else-eq-clause-told : goal.returns-else-eq-clause-told
-returns-else-eq-clause-told c = told_decide attribute_octets attributes_by_octets c.args.self.now c.args.other.now _ (search rules)
+pub returns-else-eq-clause-compared : goal.returns-else-eq-clause-compared
+returns-else-eq-clause-compared c = told_decide attribute_octets attributes_by_octets c.args.self.now c.args.other.now _ (search rules)
 
 pub returns-else-eq-clause-octets : goal.returns-else-eq-clause-octets
 returns-else-eq-clause-octets c = writable_decide IsAttribute attribute (λ a. inner_values a.value) attributes c.args.self.now c.args.other.now _ (search rules)

@@ -25,9 +25,9 @@ pub returns-else-has_same_id_and_flag-clause-octets : goal.returns-else-has_same
 returns-else-has_same_id_and_flag-clause-octets c =
     writable_decide IsExtension extension (λ e. inner_value e.extn_value) all_extensions c.args.self.now c.args.other.now _ (search rules)
 
-pub returns-then-has_same_id_and_flag-clause-told : goal.returns-then-has_same_id_and_flag-clause-told
-returns-then-has_same_id_and_flag-clause-told c =
+pub returns-then-has_same_id_and_flag-clause-compared : goal.returns-then-has_same_id_and_flag-clause-compared
+returns-then-has_same_id_and_flag-clause-compared c =
     by_octets c.args.self.now c.args.other.now _ (by_value _ _ _ (c.has_same_id_and_flag.ensures.0 c.if-has_same_id_and_flag.true) c.eq.ensures.same)
 
-pub returns-else-has_same_id_and_flag-clause-told : goal.returns-else-has_same_id_and_flag-clause-told
-returns-else-has_same_id_and_flag-clause-told c = by_octets c.args.self.now c.args.other.now _ (search rules)
+pub returns-else-has_same_id_and_flag-clause-compared : goal.returns-else-has_same_id_and_flag-clause-compared
+returns-else-has_same_id_and_flag-clause-compared c = by_octets c.args.self.now c.args.other.now _ (search rules)
