@@ -1,1 +1,2 @@
+-- The scheme of a test: no public contract cites it.
 pub mod ThreeRows
