@@ -64,7 +64,7 @@ pub enum Excuse {
     /// A certificate in the bag has the extended key usage time stamping.
     Bag,
     /// No certificate in the bag has it, but one in the time-stamp token has, and the token's first
-    /// certificate is linked to its others.
+    /// certificate is linked to its others with another subject.
     Token,
 }
 

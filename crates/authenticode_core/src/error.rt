@@ -80,7 +80,7 @@ pub enum AuthenticodeError {
     /// its issuer walk has an extended key usage.
     NoEKUCodeSigning,
     /// The signer's certificate has expired, and the first certificate of the token that would
-    /// excuse it isn't linked to the others. Never wraps `Memory`.
+    /// excuse it isn't linked to the others with another subject. Never wraps `Memory`.
     InvalidTimestampCert(CertError),
     /// The list isn't a trust list, or its entry for the CA is malformed. Never wraps `Memory`.
     CtlError(CtlError),

@@ -58,8 +58,8 @@ pub fn check_made<S: Scheme>(
     scheme: &S,
 ) -> Result<Accepted, CheckError>
     ensures answer { IsAnswer (S.judge scheme.now) policy.entry.now octets.now result }
-    // A refusal of the header, of the certificate's kind or of the form comes even when memory runs
-    // out.
+    // A refusal of the header, of what the certificate is, of the form or for a missing digest
+    // comes however much memory there is.
     ensures refused { (e : CheckError) → RefusesForm policy.entry.now octets.now e → result ≡ Err e }
     // A file that was made is checked with its certificates, whatever the policy checks.
     ensures over { (first : CertificateElements) (others : List CertificateElements)

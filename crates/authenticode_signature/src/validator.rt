@@ -121,7 +121,7 @@ impl<'a> AuthenticodeValidator<'a> {
         self
     }
 
-    /// The issuers' certificates are ignored.
+    /// The signer's certificate needn't be linked to those of its issuers.
     pub fn ignore_chain_check(mut self) -> Self
         ensures policy { result.policy ≡ policy_with_chain false self.entry.policy }
         ensures signature { result.signature.now ≡ self.entry.signature.now }
@@ -139,7 +139,8 @@ impl<'a> AuthenticodeValidator<'a> {
         self
     }
 
-    /// The signer's certificate isn't checked, except that basic validation uses its key.
+    /// The signer's certificate isn't checked, except by basic validation: its key, and whether it
+    /// may sign code.
     pub fn ignore_signing_certificate_check(mut self) -> Self
         ensures policy { result.policy ≡ with_signing false self.entry.policy }
         ensures signature { result.signature.now ≡ self.entry.signature.now }

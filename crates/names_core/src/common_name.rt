@@ -39,7 +39,8 @@ fn first_in(members: &[AttributeTypeAndValue]) -> Option<&DirectoryString>
     None
 }
 
-/// The string of an attribute that is a common name, `None` for any other attribute.
+/// The string of an attribute that is a common name; `None` for any other attribute, and for a
+/// common name that is no DirectoryString.
 fn common_name_of(attribute: &AttributeTypeAndValue) -> Option<&DirectoryString>
     ensures { option_copied result ≡ common_name_of attribute.now }
 {

@@ -66,7 +66,7 @@ pub record IsWithinWindow (w : Window) (f : CertificateElements) : Type 0 where
   pub begun : HasBegun w f
   pub lasts : HasNotEnded w f
 
--- The validity has ended by the first moment, if checked.
+-- The end of the validity is checked, and not-after is before the first moment.
 pub record HasEnded (w : Window) (f : CertificateElements)
     (not_after now : GeneralizedTime) : Type 0 where
   pub asked : IsTrue w.not_after
@@ -74,7 +74,8 @@ pub record HasEnded (w : Window) (f : CertificateElements)
   pub first : earliest w.date ≡ Some now
   pub passed : IsEarlier not_after now
 
--- A certificate is expired if its validity has begun and ended.
+-- A certificate is expired if its validity has begun, as far as its beginning is checked, and has
+-- ended.
 abbrev pub IsExpired : Window → CertificateElements → Type 0
 IsExpired w f =
     HasBegun w f

@@ -42,7 +42,8 @@ where_given oid critical view None = []
 where_given oid critical view (Some x) =
     record { oid = oid; critical = critical; value = view x } ∷ []
 
--- the key usage is given and names signatures other than those on certificates (RFC 5280 4.2.1.3)
+-- the key usage is given and names signatures other than those on certificates and CRLs (RFC 5280
+-- 4.2.1.3)
 abbrev pub IsForSignatures : Option KeyUsage → Type 0
 IsForSignatures None = ⊥
 IsForSignatures (Some usage) = HasBit (usage_bits usage) 0

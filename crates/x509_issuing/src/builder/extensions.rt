@@ -69,7 +69,8 @@ impl CertificateBuilder<'_> {
         }
     }
 
-    /// Whether the key usage names signatures other than those on certificates.
+    /// Whether the key usage names signatures other than those on certificates and CRLs (RFC 5280
+    /// 4.2.1.3).
     fn is_for_signatures(&self) -> bool
         ensures { IsTrue result ↔ IsForSignatures self.now.key_usage }
     {
