@@ -1,5 +1,6 @@
 //! The validator of an Authenticode signature, under a caller's scheme.
 
+use crate::schemes::{self, OneKey};
 use authenticode_core::{Accepted, CheckError, Excuse};
 use authenticode_signature::AuthenticodeSignature;
 use der_core::Octets;
@@ -99,5 +100,31 @@ fn validates(rt: HostRuntime) -> Result<(), Fail> {
     assert!(rt; ends_at(rt.alloc(), &signature, &accepted, ISSUER)?);
     assert!(rt; !ends_at(rt.alloc(), &signature, &accepted, SIGNER)?);
     assert!(rt; outcome_in(rt.alloc(), &signature, 2031)?.is_err());
+    Ok(())
+}
+
+/// Whether the file is valid for the digest in 2025 under a scheme that accepts this key alone.
+fn is_valid_under(alloc: Global, file: &str, key: &str) -> Result<bool, Fail> {
+    let signature = signature_in(alloc, &hex::decode(alloc, file)?)?;
+    let scheme = OneKey {
+        key: Octets::from_slice(alloc, &hex::decode(alloc, key)?)?,
+    };
+    let digest = hex::decode(alloc, DIGEST)?;
+    match UtcDate::ymd(2025, 1, 1) {
+        Some(date) => Ok(validated(alloc, &signature, &digest, date, &scheme).is_ok()),
+        None => Err(Fail::from("no such year")),
+    }
+}
+
+/// The key of the issuer in `FILE`; that of its signer is the one of `schemes`.
+const ISSUER_KEY: &str = "3006020112020103";
+
+// A file without issuers needs the signer's key alone, one with an issuer both keys.
+#[test]
+fn validates_under_one_key(rt: HostRuntime) -> Result<(), Fail> {
+    assert!(rt; is_valid_under(rt.alloc(), schemes::FILE, schemes::KEY)?);
+    assert!(rt; !is_valid_under(rt.alloc(), schemes::FILE, ISSUER_KEY)?);
+    assert!(rt; !is_valid_under(rt.alloc(), FILE, schemes::KEY)?);
+    assert!(rt; !is_valid_under(rt.alloc(), FILE, ISSUER_KEY)?);
     Ok(())
 }

@@ -8,15 +8,10 @@ use std::alloc::Global;
 use std::test::Fail;
 use wincert_core::CertificateType;
 
-/// The signature file of a program with this SHA-256, by the first of the certificates and its key.
-fn sign(
-    alloc: Global,
-    certificates: &Pkcs7,
-    hash: &[u8],
-    key: &PrivateKey,
-) -> Result<Vec<u8>, CheckError> {
+/// The signature file of a program with this SHA-256, by the bag's first certificate and its key.
+fn sign(alloc: Global, bag: &Pkcs7, hash: &[u8], key: &PrivateKey) -> Result<Vec<u8>, CheckError> {
     let (sha, scheme) = (ShaVariant::SHA2_256, DemoScheme::new());
-    let made = AuthenticodeSignature::new(alloc, certificates, hash, sha, key, None, &scheme)?;
+    let made = AuthenticodeSignature::new(alloc, bag, hash, sha, key, None, &scheme)?;
     encode_signature(alloc, &made, CertificateType::WinCertTypePkcsSignedData)
 }
 

@@ -4,13 +4,11 @@ use picky_check::{MemShelf, MemSink, run};
 use std::alloc::{AllocError, Global};
 use std::test::Fail;
 
-/// The exit status of `picky` with these arguments, over the files `sig` and `table`. Its line goes
-/// to the sink.
+/// The exit status of `picky` over the files `sig` and `table`. Its line goes to the sink.
 fn status(
     alloc: Global,
     words: &[String],
-    signature: &[u8],
-    table: &str,
+    (signature, table): (&[u8], &str),
     out: &mut MemSink,
 ) -> Result<u8, AllocError> {
     let mut shelf = MemShelf::new(alloc);
@@ -24,7 +22,7 @@ fn runs(rt: HostRuntime) -> Result<(), Fail> {
     let file = hex::decode(rt.alloc(), FILE)?;
     let words = words_of(rt.alloc(), &["basic", "sig", "table", HASH])?;
     let mut sink = MemSink::with_room(rt.alloc(), 100)?;
-    assert!(rt; status(rt.alloc(), &words, &file, TABLE, &mut sink)? == 0);
+    assert!(rt; status(rt.alloc(), &words, (file.as_slice(), TABLE), &mut sink)? == 0);
     assert!(rt; sink.held() == LINE.as_bytes());
     Ok(())
 }

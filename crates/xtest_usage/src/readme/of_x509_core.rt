@@ -3,21 +3,17 @@
 use names_core::UtcDate;
 use sig_core::VerdictTable;
 use std::alloc::Global;
-use std::slice::Iter;
 use std::test::Fail;
-use x509_core::{Cert, CertError, CertValidator};
+use x509_core::{Cert, CertError};
 
-/// Accepts a certificate at a date under its issuers, the nearest first and a root last, or reports
-/// the first rule that is broken. The table has the verdicts on their signatures.
-fn check<'a>(
+/// Checks a certificate under its issuers, the nearest first and a root last, by a verdict table.
+fn check(
     alloc: Global,
-    cert: &'a Cert,
-    issuers: &'a [Cert],
-    date: &'a UtcDate,
+    (cert, issuers): (&Cert, &[Cert]),
+    date: &UtcDate,
     table: &VerdictTable,
 ) -> Result<(), CertError> {
-    let validator: CertValidator<'a, 'a, Iter<'a, Cert>> = cert.verifier();
-    let validator = validator.exact_date(date).chain(issuers.iter());
+    let validator = cert.verifier().exact_date(date).chain(issuers.iter());
     validator.verify(alloc, table)
 }
 
@@ -48,7 +44,7 @@ fn is_accepted_in(
     table: &VerdictTable,
 ) -> bool {
     match UtcDate::ymd(year, 6, 15) {
-        Some(date) => check(alloc, cert, issuers, &date, table).is_ok(),
+        Some(date) => check(alloc, (cert, issuers), &date, table).is_ok(),
         None => false,
     }
 }
