@@ -16,7 +16,7 @@ use Rattle.x509_types.specs.CertificateElements.{CertificateElements}
 use Rattle.x509_types.specs.CertificateView.{view_elements}
 use Rattle.authenticode_core.specs.BagSigner.{IsNamedByFirst}
 use Rattle.authenticode_core.specs.CertificateBag.{IsBag, IsMember}
-use Rattle.authenticode_core.specs.Places.{StandsAt, HoldsOfNone, HasNoPlace, IsLeastPlace}
+use Rattle.authenticode_core.specs.Places.{StandsAt, HasNoPlaceBetween, HasNoPlace, IsLeastPlace}
 use Rattle.authenticode_core.specs.Inside.Naming.{IsFirstOfName, IsNamedAt}
 use Rattle.authenticode_core.specs.SigningRules.{AsksForPurposes}
 use Rattle.authenticode_core.specs.declared.signer.bag.BagCertificate.{BagCertificate}
@@ -35,7 +35,7 @@ pub record Unnamed (left : List DerElement) (bag : List CertificateElements) (ho
   pub behind : List CertificateElements
   pub are : bag ≡ before ++ behind
   pub others : IsBag left behind
-  pub none : HoldsOfNone bag holds 0 (length before)
+  pub none : HasNoPlaceBetween bag holds 0 (length before)
 
 pub unnamed_yet : (left : List DerElement) (bag : List CertificateElements) (holds : CertificateElements → Type 0) → IsBag left bag → Unnamed left bag holds
 unnamed_yet left bag holds p = record { before = []; behind = bag; are = refl; others = p; none = λ place c later less at fits. absurd (omega (arith, less)) }
@@ -44,7 +44,7 @@ stands_there : (bag before others : List CertificateElements) (c : CertificateEl
 stands_there bag before others c are = subst (λ (b : List CertificateElements). StandsAt b (length before) c) (sym are) (here before others c)
 
 module _ (member : DerElement) (left : List DerElement) (bag : List CertificateElements) (holds : CertificateElements → Type 0) where
-  passed : (before behind : List CertificateElements) → bag ≡ before ++ behind → HoldsOfNone bag holds 0 (length before) → ((c : CertificateElements) → IsMember member c → holds c → ⊥) → IsBag (member ∷ left) behind → Unnamed left bag holds
+  passed : (before behind : List CertificateElements) → bag ≡ before ++ behind → HasNoPlaceBetween bag holds 0 (length before) → ((c : CertificateElements) → IsMember member c → holds c → ⊥) → IsBag (member ∷ left) behind → Unnamed left bag holds
   passed before behind are none refused (inl p) = record { before = before; behind = behind; are = are; others = p.1; none = none }
   passed before behind are none refused (inr p) =
       let whole : bag ≡ before ++ p.0 ∷ p.1 = are ∙ ap (λ (rest : List CertificateElements). before ++ rest) p.2 in
@@ -57,7 +57,7 @@ module _ (member : DerElement) (left : List DerElement) (bag : List CertificateE
             none_yet bag holds 0 (length before) p.0 none (stands_there bag before p.1 p.0 whole) (refused p.0 p.3) place c later (omega (arith, less, length-append before (p.0 ∷ []))) at fits;
       }
 
-  found : (before behind : List CertificateElements) (c : CertificateElements) → bag ≡ before ++ behind → HoldsOfNone bag holds 0 (length before) → IsMember member c → holds c → IsBag (member ∷ left) behind
+  found : (before behind : List CertificateElements) (c : CertificateElements) → bag ≡ before ++ behind → HasNoPlaceBetween bag holds 0 (length before) → IsMember member c → holds c → IsBag (member ∷ left) behind
       → (place : ℕ) × IsLeastPlace bag holds 0 place c
   found before behind c are none m fits (inl p) = absurd (p.0 c m)
   found before behind c are none m fits (inr p) =

@@ -8,7 +8,7 @@ use Rattle.x509_types.specs.CertificateView.{view_elements}
 use Rattle.authenticode_core.specs.Inside.Naming.{AsksNext, FindsNext}
 use Rattle.authenticode_core.specs.Inside.Wanted.{IsWanted}
 use Rattle.authenticode_core.specs.IssuerWalk.{IsWalkFrom}
-use Rattle.authenticode_core.specs.Places.{StandsAt, HasNoPlace, HoldsOfNone, IsLeastPlace}
+use Rattle.authenticode_core.specs.Places.{StandsAt, HasNoPlace, HasNoPlaceBetween, IsLeastPlace}
 use Rattle.authenticode_core.specs.SigningRules.{AsksForPurposes}
 use Rattle.authenticode_core.specs.WalkCursor.{LooksFrom, StepsTo}
 use Rattle.authenticode_core.specs.declared.path.issuer_walk.IssuerWalk.{IssuerWalk}
@@ -19,7 +19,7 @@ use Rattle.authenticode_core.proofs.WalkedPlaces.{Walked, walked_none, walked_st
 
 -- The certificate at the least index before this one for which the rule holds, or none.
 abbrev pub IsFoundBefore : List CertificateElements → (CertificateElements → Type 0) → ℕ → Option BagCertificate → Type 0
-IsFoundBefore bag holds place None = HoldsOfNone bag holds 0 place
+IsFoundBefore bag holds place None = HasNoPlaceBetween bag holds 0 place
 IsFoundBefore bag holds place (Some found) = IsLeastPlace bag holds 0 found.place (view_elements found.certificate)
 
 -- The walk has passed some indices, and the first of these whose certificate is wanted is known.

@@ -8,7 +8,7 @@ use Rattle.der_core.specs.DerElement.{DerElement}
 use Rattle.authenticode_core.specs.BagCursor.{StandsIn}
 use Rattle.authenticode_core.specs.CertificateBag.{IsBag}
 use Rattle.authenticode_core.specs.LeftMembers.{left_members, BeginsBag}
-use Rattle.authenticode_core.specs.Places.{StandsAt, HoldsOfNone, HasNoPlace}
+use Rattle.authenticode_core.specs.Places.{StandsAt, HasNoPlaceBetween, HasNoPlace}
 use Rattle.authenticode_core.specs.declared.signer.bag.Bag.{Bag}
 use Rattle.authenticode_core.proofs.BagSteps.{one_bag}
 
@@ -18,12 +18,12 @@ here before others c =
     slice_get_read bag (length bag) (length before) c refl (omega (arith, length-append before (c ∷ others))) (sym (get_or-append_seam before c others c))
 
 -- nothing is after the last index
-pub none_behind : (bag : List CertificateElements) (holds : CertificateElements → Type 0) (from place : ℕ) → HoldsOfNone bag holds from place → length bag ≡ place → HasNoPlace bag holds from
+pub none_behind : (bag : List CertificateElements) (holds : CertificateElements → Type 0) (from place : ℕ) → HasNoPlaceBetween bag holds from place → length bag ≡ place → HasNoPlace bag holds from
 none_behind bag holds from place none e at c later stands fits =
     none at c later (omega (arith, slice_get_within bag at c stands, e)) stands fits
 
 -- one more index for which the rule doesn't hold
-one_more : (bag : List CertificateElements) (holds : CertificateElements → Type 0) (from place : ℕ) (c : CertificateElements) → HoldsOfNone bag holds from place → StandsAt bag place c → (holds c → ⊥)
+one_more : (bag : List CertificateElements) (holds : CertificateElements → Type 0) (from place : ℕ) (c : CertificateElements) → HasNoPlaceBetween bag holds from place → StandsAt bag place c → (holds c → ⊥)
     → (other : ℕ) (d : CertificateElements) → from ≤ other → other < suc place → StandsAt bag other d → holds d → (other < place) ⊎ (place ≤ other) → ⊥
 one_more bag holds from place c none stands fails other d later before at fits (inl less) = none other d later less at fits
 one_more bag holds from place c none stands fails other d later before at fits (inr more) =
@@ -33,7 +33,7 @@ one_more bag holds from place c none stands fails other d later before at fits (
     let same : d ≡ c = cc in
     fails (subst holds same fits)
 
-pub none_yet : (bag : List CertificateElements) (holds : CertificateElements → Type 0) (from place : ℕ) (c : CertificateElements) → HoldsOfNone bag holds from place → StandsAt bag place c → (holds c → ⊥) → HoldsOfNone bag holds from (suc place)
+pub none_yet : (bag : List CertificateElements) (holds : CertificateElements → Type 0) (from place : ℕ) (c : CertificateElements) → HasNoPlaceBetween bag holds from place → StandsAt bag place c → (holds c → ⊥) → HasNoPlaceBetween bag holds from (suc place)
 none_yet bag holds from place c none stands fails other d later before at fits = one_more bag holds from place c none stands fails other d later before at fits (cases_lt other place)
 
 -- ---- where a cursor is

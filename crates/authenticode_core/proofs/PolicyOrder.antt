@@ -219,16 +219,16 @@ module _ (judge : Judge) (policy : Policy) (f : SignedDataElements) where
             place = w.place;
             signer = w.signer;
             is = w.is;
-            told = ap Some (signer_once f there.1.0 w.bag place w.place there.0 w.signer.elements there.1.1 w.is.is_bag there.1.2 w.is.is_signer).0;
+            place_is = ap Some (signer_once f there.1.0 w.bag place w.place there.0 w.signer.elements there.1.1 w.is.is_bag there.1.2 w.is.is_signer).0;
             dated = w.dated;
-            stands = w.stands;
+            valid = w.valid;
           }
 
           pub with_list : IsTrusted judge policy f (at_place a place)
           with_list = record {
             basic = λ basic. placed policy.basic told (at_place a place) at basic (λ other vouched is. ap Some (same_as other vouched));
             signing = λ signing. vouched_there (vouched_on policy.signing v signing);
-            listed = λ list. record { bag = there.1.0; is_bag = there.1.1; place = place; certificate = there.0; is_signer = there.1.2; told = refl; listed = at_list.1 };
+            listed = λ list. record { bag = there.1.0; is_bag = there.1.1; place = place; certificate = there.0; is_signer = there.1.2; place_is = refl; listed = at_list.1 };
             pathless = λ none. pathless_off policy.signing v none;
             placeless = λ basic signing none. absurd (on_or_off policy.against_list on none);
           }

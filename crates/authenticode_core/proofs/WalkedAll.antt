@@ -9,7 +9,7 @@ use Rattle.der_core.specs.Encoding.{encoding}
 use Rattle.x509_types.specs.CertificateElements.{CertificateElements}
 use Rattle.authenticode_core.specs.IssuerWalk.{IsWalkFrom, HasSubjectAt, AreOthers}
 use Rattle.authenticode_core.specs.Names.{HasSubject}
-use Rattle.authenticode_core.specs.Places.{StandsAt, HoldsOfNone, HasNoPlace}
+use Rattle.authenticode_core.specs.Places.{StandsAt, HasNoPlaceBetween, HasNoPlace}
 use Rattle.authenticode_core.proofs.WalkSteps.{same_certificate}
 
 -- ---- a certificate has a subject or not
@@ -52,7 +52,7 @@ passed bag from c subject (first ∷ places) stands fails w = (
   w.2,
 )
 
-none_before : (bag : List CertificateElements) (holds : CertificateElements → Type 0) (from : ℕ) → HoldsOfNone bag holds from from
+none_before : (bag : List CertificateElements) (holds : CertificateElements → Type 0) (from : ℕ) → HasNoPlaceBetween bag holds from from
 none_before bag holds from place c later before stands fits = omega (arith, later, before)
 
 -- some walk from the index, for the subject

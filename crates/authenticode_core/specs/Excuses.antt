@@ -108,7 +108,7 @@ IsListedToken policy bag =
 
 -- ---- rules of a token's bag, by what breaks them
 
--- the first certificate of the bag isn't linked to the others
+-- the first certificate of the bag isn't linked to the others with another subject
 abbrev pub IsUnlinkedStamp : Judge → List CertificateElements → Rule AuthenticodeError
 IsUnlinkedStamp judge bag e =
     (cause : CertError) × IsUnlinkedToken judge bag cause × (e ≡ errors.InvalidTimestampCert cause)
@@ -127,7 +127,8 @@ stamp_rules judge policy bag = IsUnlinkedStamp judge bag ∷ IsUnlistedStamp pol
 -- ---- excuses for the signer's certificate in a bag, which has expired
 
 -- The signature has a token, some certificate of it has the extended key usage time stamping, its
--- first certificate is linked to the others, and if the policy has a list, its CA is on it.
+-- first certificate is linked to the others with another subject, and if the policy has a list, its
+-- CA is on it.
 pub record IsStamped (judge : Judge) (policy : Policy) (f : SignedDataElements) : Type 0 where
   pub t : SignedDataElements
   pub has : HasToken f t
@@ -139,7 +140,7 @@ pub record IsStamped (judge : Judge) (policy : Policy) (f : SignedDataElements) 
 -- There is this reason to excuse the expiry: the certificate doesn't have the extended key usage
 -- lifetime signing, and some certificate of the bag has time stamping; or none of the bag does, and
 -- the signature has a token with such a certificate, whose first certificate is linked to the
--- others, and whose CA is on the list of the policy, if there is one.
+-- others with another subject, and whose CA is on the list of the policy, if there is one.
 abbrev pub HasReason : Judge → Policy → SignedDataElements → List CertificateElements
     → CertificateElements → Excuse → Type 0
 HasReason judge policy f bag c excuses.None = ⊥

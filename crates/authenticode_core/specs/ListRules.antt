@@ -63,7 +63,7 @@ pub record IsSignerListed (policy : Policy) (f : SignedDataElements) (a : Accept
   pub place : ℕ
   pub certificate : CertificateElements
   pub is_signer : IsSignerCertificate f bag place certificate
-  pub told : a.signer ≡ Some place
+  pub place_is : a.signer ≡ Some place
   pub listed : IsTrustedCaOf policy f
 
 -- ---- rules, by what breaks them

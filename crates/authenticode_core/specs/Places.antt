@@ -7,8 +7,8 @@ abbrev pub StandsAt : List CertificateElements → ℕ → CertificateElements �
 StandsAt bag place c = slice_get bag place ≡ Some c
 
 -- a rule holds for no certificate at an index from one on and below another
-abbrev pub HoldsOfNone : List CertificateElements → (CertificateElements → Type 0) → ℕ → ℕ → Type 0
-HoldsOfNone bag holds from to =
+abbrev pub HasNoPlaceBetween : List CertificateElements → (CertificateElements → Type 0) → ℕ → ℕ → Type 0
+HasNoPlaceBetween bag holds from to =
     (place : ℕ) (c : CertificateElements) → from ≤ place → place < to → StandsAt bag place c
     → holds c → ⊥
 
@@ -24,4 +24,4 @@ pub record IsLeastPlace (bag : List CertificateElements) (holds : CertificateEle
   pub later : from ≤ place
   pub stands : StandsAt bag place c
   pub fits : holds c
-  pub least : HoldsOfNone bag holds from place
+  pub least : HasNoPlaceBetween bag holds from place

@@ -106,7 +106,7 @@ pub record IsUnexcused (policy : Policy) (f : SignedDataElements)
   pub told : e ≡ errors.CertError cause
 
 -- The signer's certificate has expired, and the token that would excuse it has a first certificate
--- that isn't linked to the others, or a CA that isn't on the list.
+-- that isn't linked to the others with another subject, or a CA that isn't on the list.
 pub record IsBadlyStamped (judge : Judge) (policy : Policy) (f : SignedDataElements)
     (e : AuthenticodeError) : Type 0 where
   pub bag : List CertificateElements

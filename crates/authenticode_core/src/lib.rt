@@ -2,7 +2,7 @@
 //! indices the signer's certificate and those of its issuers are.
 //!
 //! The modules follow the steps of the check: `value`, `form`, `digest`, `signature`, `signer`,
-//! `path`, `excuse`, `listing`. `steps` has their order, `basic` the order in basic validation.
+//! `excuse`, `path`, `listing`. `steps` has their order, `basic` the order in basic validation.
 #![tactic(auto)]
 
 mod accepted;

@@ -189,7 +189,7 @@ trusted judge policy f file_hash asked vouched = record {
   signing = λ on. absurd (cc (on, asked.signing));
   listed = λ on.
       let s = vouched.signed in
-      record { bag = s.bag; is_bag = s.is_bag; place = 0; certificate = s.certificate; is_signer = s.is_signer; told = refl; listed = λ list some. absurd (cc (asked.listless, some)) };
+      record { bag = s.bag; is_bag = s.is_bag; place = 0; certificate = s.certificate; is_signer = s.is_signer; place_is = refl; listed = λ list some. absurd (cc (asked.listless, some)) };
   pathless = λ off. (refl, refl);
   placeless = λ off also none. absurd (cc (off, asked.basic));
 }

@@ -24,7 +24,7 @@ use Rattle.cms_types.specs.declared.signer_info.identifier.SignerIdentifier.{Sig
 use Rattle.cms_types.specs.declared.signer_info.identifier.SignerIdentifier.TheVariants as named
 use Rattle.cms_types.specs.declared.signer_info.issuer_and_serial.IssuerAndSerialNumber.{IssuerAndSerialNumber}
 use Rattle.authenticode_core.specs.BagSigner.{IsNamedByFirst, HasNoSigner, HasIssuerAndSerial}
-use Rattle.authenticode_core.specs.Places.{HasNoPlace, HoldsOfNone, IsLeastPlace, StandsAt}
+use Rattle.authenticode_core.specs.Places.{HasNoPlace, HasNoPlaceBetween, IsLeastPlace, StandsAt}
 use Rattle.authenticode_signature.specs.SigningCertificate.{FirstNames, IsNamedOtherwise, IsSigningCertificate}
 
 -- ---- the index of a certificate
@@ -33,7 +33,7 @@ pub stands_at : (certificates : List KeptCertificate) (place : ℕ) (k : KeptCer
 stands_at certificates place k at = slice_get-map (λ (c : KeptCertificate). c.elements) certificates place ∙ ap (option_map (λ (c : KeptCertificate). c.elements)) at
 
 -- one more index for which the rule doesn't hold
-one_more : (bag : List CertificateElements) (holds : CertificateElements → Type 0) (place : ℕ) (c : CertificateElements) → HoldsOfNone bag holds 0 place → StandsAt bag place c → (holds c → ⊥)
+one_more : (bag : List CertificateElements) (holds : CertificateElements → Type 0) (place : ℕ) (c : CertificateElements) → HasNoPlaceBetween bag holds 0 place → StandsAt bag place c → (holds c → ⊥)
     → (other : ℕ) (d : CertificateElements) → other < suc place → StandsAt bag other d → holds d → (other < place) ⊎ (place ≤ other) → ⊥
 one_more bag holds place c none stands fails other d before at fits (inl less) = none other d (omega arith) less at fits
 one_more bag holds place c none stands fails other d before at fits (inr more) =
@@ -43,16 +43,16 @@ one_more bag holds place c none stands fails other d before at fits (inr more) =
     let same : d ≡ c = cc in
     fails (subst holds same fits)
 
-pub none_yet : (bag : List CertificateElements) (holds : CertificateElements → Type 0) (place next : ℕ) (c : CertificateElements) → next ≡ suc place → HoldsOfNone bag holds 0 place → StandsAt bag place c → (holds c → ⊥) → HoldsOfNone bag holds 0 next
+pub none_yet : (bag : List CertificateElements) (holds : CertificateElements → Type 0) (place next : ℕ) (c : CertificateElements) → next ≡ suc place → HasNoPlaceBetween bag holds 0 place → StandsAt bag place c → (holds c → ⊥) → HasNoPlaceBetween bag holds 0 next
 none_yet bag holds place next c e none stands fails other d later before at fits =
     one_more bag holds place c none stands fails other d (omega (arith, before, e)) at fits (cases_lt other place)
 
-pub none_at_all : (certificates : List KeptCertificate) (holds : CertificateElements → Type 0) (place : ℕ) → HoldsOfNone (elements_of certificates) holds 0 place → length certificates ≤ place → HasNoPlace (elements_of certificates) holds 0
+pub none_at_all : (certificates : List KeptCertificate) (holds : CertificateElements → Type 0) (place : ℕ) → HasNoPlaceBetween (elements_of certificates) holds 0 place → length certificates ≤ place → HasNoPlace (elements_of certificates) holds 0
 none_at_all certificates holds place none e at c later stands fits =
     none at c later (omega (arith, slice_get_within (elements_of certificates) at c stands, length-map certificates (λ (k : KeptCertificate). k.elements), e)) stands fits
 
 -- the certificate at the index is the first for which the rule holds
-pub found_at : (certificates : List KeptCertificate) (holds : CertificateElements → Type 0) (place : ℕ) (k : KeptCertificate) → slice_get certificates place ≡ Some k → HoldsOfNone (elements_of certificates) holds 0 place → holds k.elements
+pub found_at : (certificates : List KeptCertificate) (holds : CertificateElements → Type 0) (place : ℕ) (k : KeptCertificate) → slice_get certificates place ≡ Some k → HasNoPlaceBetween (elements_of certificates) holds 0 place → holds k.elements
     → (p : ℕ) × (slice_get certificates p ≡ Some k) × IsLeastPlace (elements_of certificates) holds 0 p k.elements
 found_at certificates holds place k at none fits =
     (place, at, record { later = omega arith; stands = stands_at certificates place k at; fits = fits; least = none })

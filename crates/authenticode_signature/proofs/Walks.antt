@@ -10,7 +10,7 @@ use Rattle.x509_types.specs.CertificateElements.{CertificateElements}
 use Rattle.authenticode_parts.specs.Carried.{elements_of}
 use Rattle.authenticode_core.specs.IssuerWalk.{IsWalkFrom}
 use Rattle.authenticode_core.specs.Names.{HasSubject}
-use Rattle.authenticode_core.specs.Places.{HasNoPlace, HoldsOfNone, IsLeastPlace}
+use Rattle.authenticode_core.specs.Places.{HasNoPlace, HasNoPlaceBetween, IsLeastPlace}
 use Rattle.authenticode_signature.specs.Walk.{IsWalkOf, AreAtPlaces, walked}
 
 -- ---- one certificate more before the others
@@ -19,7 +19,7 @@ further_none : (c : CertificateElements) (bag : List CertificateElements) (holds
 further_none c bag holds from none zero d later stands fits = absurd (omega (arith, later))
 further_none c bag holds from none (suc place) d later stands fits = none place d (omega (arith, later)) stands fits
 
-further_before : (c : CertificateElements) (bag : List CertificateElements) (holds : CertificateElements → Type 0) (from place : ℕ) → HoldsOfNone bag holds from place → HoldsOfNone (c ∷ bag) holds (suc from) (suc place)
+further_before : (c : CertificateElements) (bag : List CertificateElements) (holds : CertificateElements → Type 0) (from place : ℕ) → HasNoPlaceBetween bag holds from place → HasNoPlaceBetween (c ∷ bag) holds (suc from) (suc place)
 further_before c bag holds from place none zero d later before stands fits = absurd (omega (arith, later))
 further_before c bag holds from place none (suc other) d later before stands fits = none other d (omega (arith, later)) (omega (arith, before)) stands fits
 
@@ -51,7 +51,7 @@ from_first : (c : CertificateElements) (bag : List CertificateElements) (holds :
 from_first c bag holds fails none zero d later stands fits = is_first c d holds fails stands fits
 from_first c bag holds fails none (suc place) d later stands fits = none (suc place) d (omega arith) stands fits
 
-before_first : (c : CertificateElements) (bag : List CertificateElements) (holds : CertificateElements → Type 0) (to : ℕ) → (holds c → ⊥) → HoldsOfNone (c ∷ bag) holds 1 to → HoldsOfNone (c ∷ bag) holds 0 to
+before_first : (c : CertificateElements) (bag : List CertificateElements) (holds : CertificateElements → Type 0) (to : ℕ) → (holds c → ⊥) → HasNoPlaceBetween (c ∷ bag) holds 1 to → HasNoPlaceBetween (c ∷ bag) holds 0 to
 before_first c bag holds to fails none zero d later before stands fits = is_first c d holds fails stands fits
 before_first c bag holds to fails none (suc place) d later before stands fits = none (suc place) d (omega arith) before stands fits
 
@@ -65,7 +65,7 @@ passed c bag subject (place ∷ places) fails w = (
 
 -- ---- the first certificate has it
 
-none_before : (c : CertificateElements) (bag : List CertificateElements) (holds : CertificateElements → Type 0) → HoldsOfNone (c ∷ bag) holds 0 0
+none_before : (c : CertificateElements) (bag : List CertificateElements) (holds : CertificateElements → Type 0) → HasNoPlaceBetween (c ∷ bag) holds 0 0
 none_before c bag holds place d later before stands fits = omega (arith, before)
 
 pub begun : (c : CertificateElements) (bag : List CertificateElements) (subject : DerElement) (places : List ℕ) → HasSubject subject c → IsWalkFrom bag 0 c.tbs.issuer places → IsWalkFrom (c ∷ bag) 0 subject (0 ∷ map (λ n. suc n) places)

@@ -1,6 +1,6 @@
 -- When the name of a CA is listed at a time, and which refusal comes first otherwise (Microsoft,
 -- wincrypt.h).
-use Rattle.std.specs.Prelude.{◌≡◌, ◌⊎◌, ⊤, ℕ, ℤ, ◌<◌, ◌≤◌, ◌<ℤ◌, ◌≤ℤ◌, List, [], ◌∷◌, length}
+use Rattle.std.specs.Prelude.{◌≡◌, ◌⊎◌, ⊤, ℕ, ℤ, ◌<◌, ◌≤◌, ◌<ℤ◌, ◌≤ℤ◌, List, [], ◌∷◌, ◌++◌, length}
 use Rattle.asn1_types.specs.Values.{identifier_contents}
 use Rattle.asn1_types.specs.declared.oid.ObjectIdentifier.{ObjectIdentifier}
 use Rattle.asn1_types.specs.declared.oids.TheConstants.{KP_CODE_SIGNING}
@@ -120,8 +120,7 @@ beginning_rules entry now = HasNoBeginning entry ∷ HasNotBegun entry now ∷ [
 -- the rules for an entry, in their order
 abbrev pub entry_rules : CTLEntry → ℤ → List (Rule ListingError)
 entry_rules entry now =
-    HasNoEnd entry ∷ IsRevoked entry ∷ HasEnded entry now ∷ HasNoBeginning entry ∷
-    HasNotBegun entry now ∷ []
+    end_rules entry now ++ beginning_rules entry now
 
 -- ---- rules for a name
 

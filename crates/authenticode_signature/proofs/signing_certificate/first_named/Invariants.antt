@@ -1,8 +1,8 @@
 use Rattle.authenticode_parts.specs.Carried.{elements_of}
-use Rattle.authenticode_core.specs.Places.{HoldsOfNone}
+use Rattle.authenticode_core.specs.Places.{HasNoPlaceBetween}
 use Rattle.authenticode_core.specs.BagSigner.{HasIssuerAndSerial}
 use Rattle.authenticode_signature.proofs.signing_certificate.first_named.Given as goal
 
 -- none of the passed certificates is identified
 abbrev pub invariant-loop-certificate : goal.invariant-loop-certificate
-invariant-loop-certificate l = HoldsOfNone (elements_of l.certificates) (HasIssuerAndSerial l.named) 0 l.certificate-index
+invariant-loop-certificate l = HasNoPlaceBetween (elements_of l.certificates) (HasIssuerAndSerial l.named) 0 l.certificate-index
