@@ -13,7 +13,8 @@ use Rattle.trust_list.proofs.OneListing.{listed_unbroken, listing_once}
 use Rattle.trust_list.specs.Listing.{listing_rules}
 use Rattle.trust_list.specs.declared.error.ListingError.{ListingError}
 use Rattle.authenticode_core.specs.ContentRefusal.{of_ctl}
-use Rattle.authenticode_core.specs.TrustList.{AreEntriesIn, HasEntries, HasNoContent, HasOtherContent, IsNoList, IsOnList, IsOtherContent, IsUnlisted, content_of, content_rules, name_rules, of_listing}
+use Rattle.authenticode_core.specs.Inside.ListContent.{AreEntriesIn, IsOtherContent}
+use Rattle.authenticode_core.specs.TrustList.{HasEntries, HasNoContent, HasOtherContent, IsNoList, IsOnList, IsUnlisted, content_of, content_rules, name_rules, of_listing}
 use Rattle.authenticode_core.specs.declared.ctl.CertificateTrustList.{CertificateTrustList}
 use Rattle.authenticode_core.specs.declared.ctl_error.CtlError.{CtlError}
 use Rattle.authenticode_core.specs.declared.ctl_error.CtlError.TheVariants as ctl

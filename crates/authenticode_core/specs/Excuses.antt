@@ -1,8 +1,9 @@
 -- Why the expiry of a signer's certificate is excused: a certificate for time stamping in the bag,
 -- or a token with such a certificate whose first certificate is linked to its others with another
--- subject (Windows Authenticode Portable Executable Signature Format). The signature and the time
--- of a token aren't checked. An excuse waives the not-after date of the signer's certificate alone:
--- its not-before date and its issuer path are checked as without an excuse.
+-- subject, and, if the policy has a trust list, whose CA is on it (Windows Authenticode Portable
+-- Executable Signature Format). The signature and the time of a token aren't checked. An excuse
+-- waives the not-after date of the signer's certificate alone: its not-before date and its issuer
+-- path are checked as without an excuse.
 use Rattle.std.specs.Prelude.{◌≡◌, ◌⊎◌, ℕ, zero, suc, List, [], ◌∷◌, Some, length, false}
 use Rattle.std.specs.Option.{option_copied}
 use Rattle.asn1_types.specs.declared.oids.TheConstants.{KP_LIFETIME_SIGNING, KP_TIME_STAMPING, RFC3161_COUNTER_SIGN}

@@ -6,4 +6,6 @@ pub mod Wanted
 pub mod Naming
 pub mod OthersCursor
 pub mod Linking
+pub mod AuthoritySteps
+pub mod ListContent
 pub mod ExcuseSteps

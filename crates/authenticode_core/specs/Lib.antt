@@ -37,6 +37,5 @@ pub mod SignedFields
 pub mod Names
 pub mod SameElements
 pub mod AuthorityName
-pub mod AuthoritySteps
 -- Inside: definitions for private functions alone.
 pub mod Inside

@@ -45,16 +45,6 @@ abbrev pub content_of : CertificateTrustList → Option ContentValue
 content_of list = list.signed.signed_data.content_info.content
 
 -- the content is a trust list with these entries
-abbrev pub AreEntriesIn : ContentValue → List CTLEntry → Type 0
-AreEntriesIn value entries =
-    (content : Ctl) × (value ≡ contents.CertificateTrustList content)
-    × (entries ≡ content.entries)
-
--- the content isn't a trust list
-abbrev pub IsOtherContent : ContentValue → Type 0
-IsOtherContent value = kind_of_content value ≢ kinds.CertificateTrustList
-
--- the content is a trust list with these entries
 abbrev pub HasEntries : CertificateTrustList → List CTLEntry → Type 0
 HasEntries list entries =
     (content : Ctl) × (content_of list ≡ Some (contents.CertificateTrustList content))

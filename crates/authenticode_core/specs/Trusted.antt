@@ -33,7 +33,7 @@ pub record IsTrusted (judge : Judge) (policy : Policy) (f : SignedDataElements)
   pub signing : IsTrue policy.signing → IsSignerVouched judge policy f a
   pub listed : IsTrue policy.against_list → IsSignerListed policy f a
   -- if the signer's certificate isn't checked, no path and no excuse are reported, and its index
-  -- only by basic validation, or if its CA is looked up on a list
+  -- only under basic validation or `against_list`
   pub pathless : policy.signing ≡ false → (a.path ≡ []) × (a.excuse ≡ excuses.None)
   pub placeless : policy.basic ≡ false → policy.signing ≡ false → policy.against_list ≡ false
       → a.signer ≡ None

@@ -6,7 +6,7 @@ ghost use Rattle.der_core.specs.Encoding.{encoding};
 ghost use Rattle.x509_types.specs.CertificateElements.{CertificateElements};
 ghost use Rattle.x509_types.specs.CertificateView.{view_elements};
 ghost use Rattle.authenticode_core.specs.AuthorityName.{IsNameAt};
-ghost use Rattle.authenticode_core.specs.AuthoritySteps.{IsNameAfter, IsNextName};
+ghost use Rattle.authenticode_core.specs.Inside.AuthoritySteps.{IsNameAfter, IsNextName};
 ghost use Rattle.authenticode_core.specs.Inside.OthersCursor.{GivesPlaces};
 
 use crate::path::others::Source;

@@ -11,7 +11,8 @@ ghost use Rattle.der_core.specs.Rules.{IsFirstBroken};
 ghost use Rattle.der_core.specs.Structure.{IsWithin};
 ghost use Rattle.der_core.specs.declared.error.DerError.TheVariants as der_errors;
 ghost use Rattle.der_core.specs.declared.fault.DerFault.{DerFault};
-ghost use Rattle.authenticode_core.specs.TrustList.{AreEntriesIn, HasEntries, IsOtherContent, IsSignedData, content_rules, unread_list};
+ghost use Rattle.authenticode_core.specs.Inside.ListContent.{AreEntriesIn, IsOtherContent};
+ghost use Rattle.authenticode_core.specs.TrustList.{HasEntries, IsSignedData, content_rules, unread_list};
 ghost use Rattle.authenticode_core.specs.declared.ctl_error.CtlError.TheVariants.{IncorrectContentValue};
 
 use crate::ctl_error::CtlError;
