@@ -17,7 +17,7 @@ from cases.check_parts import (
     refused, s, t, without,
 )
 from cases.cms_rows import BARE, entry, property_of, trust_list
-from cases.excuse_rows import F, G, H, PLAIN_TOKEN, UNLINKED_TOKEN, f, g, m
+from cases.excuse_rows import F, G, H, PLAIN_TOKEN, REASONS, TOKENS_ALONE, UNLINKED_TOKEN, Reason, at_all, f, g, joined, m, of_path
 from cases.first_path import INDIRECT_DATA, SIGNED_DATA, context, identifier, integer, name, octet_string, sequence, set_of
 from cases.listing_rows import NOW, SECOND, TIME_STAMPING, begins, digest_of, ends, octets, usages
 from judges.check_judge import TRUST_LIST
@@ -367,10 +367,26 @@ def of_both():
             yield Row(f"{how}: {words}", made, excluding(asked, b"R", b"T") if is_excluded else asked, first or second or accepted(0, path, excuse))
 
 
+# The list of a token beside each other rule of the excuse: of the tokens in `excuse_rows` the one that
+# excuses has the CA H.
+
+BROKEN = i(ca=False)
+UNLISTED_TOKEN = Reason("a token that isn't on the list", at_all(UNLISTED), tokens=(token(T),))
+
+
+def of_reasons():
+    """A token that isn't on the list: alone, with each other rule, and before each other token."""
+    pairs = [(UNLISTED_TOKEN,), *((one, UNLISTED_TOKEN) for one in REASONS), *((UNLISTED_TOKEN, one) for one in TOKENS_ALONE)]
+    for those, (parent, fault) in product(pairs, ((I, None), (BROKEN, no_authority("I")))):
+        made = file(s(extensions=joined(those, "extensions")), parent, *joined(those, "members"), tokens=joined(those, "tokens"))
+        why = f"{' and '.join(one.why for one in those)}, {'a broken' if fault else 'a linked'} path"
+        for row in of_path(why, made, those[0].answers, at_all(fault), "1"):
+            yield row._replace(policy=beside(list_with(b"H"), row.policy))
+
+
 # The order of steps.  The CA is asked for behind all rules of the signer, and that of a token behind
 # the token's links, before those of the path.
 
-BROKEN = i(ca=False)
 FOR_LIFETIME = s(extensions=(LIFETIME,))
 ORDER = [
     Row("order: the signature before the list", without(file(S, I), 0), on(EMPTY), refused("SignatureError", "signature error: invalid signature")),
@@ -450,5 +466,6 @@ def rows():
     yield from EXCLUDED
     yield from of_names()
     yield from of_both()
+    yield from of_reasons()
     yield from ORDER
     yield from LIST_ALONE
