@@ -5,9 +5,8 @@ use Rattle.std.specs.Str.{bytes_eq}
 use Rattle.std.proofs.lemmas.List.{take_all}
 use Rattle.std.proofs.lemmas.Slice.Eq.{bytes_eq-Decides}
 use Rattle.asn1_types.specs.declared.generalized_time.GeneralizedTime.{GeneralizedTime}
-use Rattle.picky_check.specs.declared.options.CheckOptions.{CheckOptions}
 use Rattle.picky_check.specs.DateWord.{IsDateWord}
-use Rattle.picky_check.specs.Options.{AreOptions}
+use Rattle.picky_check.specs.Options.{AreOptions, CheckOptions}
 use Rattle.picky_check.specs.Words.{Job, Basic, Check, Chain, AsksFor, IsCheck, asked_hash}
 
 pub some_is : {A : Type 0} (o : Option A) → IsSome o → (x : A) × (o ≡ Some x)

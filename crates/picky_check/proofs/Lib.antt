@@ -5,9 +5,13 @@ pub mod SeveralFiles
 pub mod Adding
 pub mod Hashes
 pub mod DateWords
+pub mod SecondsWords
 pub mod AskedWords
 pub mod OptionWords
 pub mod Reported
+pub mod GivenLists
+pub mod LentLists
+pub mod ListAnswers
 pub mod Verdicts
 pub mod ReadCertificates
 pub mod Inquiries

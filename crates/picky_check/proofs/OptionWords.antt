@@ -1,10 +1,11 @@
 -- Options and their words.
 use Rattle.std.proofs.Common.{◌≡◌, ◌⊎◌, ℕ, ◌<◌, List, [], ◌∷◌, length, map, true, false, Option, Some, None, inl, inr, refl, sym, ap, subst, ◌∙◌, arith}
+use Rattle.std.specs.Prelude.{codes}
 use Rattle.asn1_types.specs.declared.generalized_time.GeneralizedTime.{GeneralizedTime}
-use Rattle.picky_check.specs.declared.options.CheckOption.{CheckOption}
-use Rattle.picky_check.specs.declared.options.CheckOption.TheVariants as option
-use Rattle.picky_check.specs.declared.options.CheckOptions.{CheckOptions}
-use Rattle.picky_check.specs.Options.{AreOptions, AreWordsOf, BeginsWithOption, IsAbsent, AreOnce, no_options, standing, with_option}
+use Rattle.picky_check.specs.DateWord.{IsDateWord}
+use Rattle.picky_check.specs.Options as option
+use Rattle.picky_check.specs.ListOption.{AskedList}
+use Rattle.picky_check.specs.Options.{AreOptions, AreWordsOf, BeginsWithOption, CheckOption, CheckOptions, IsAbsent, AreOnce, no_options, standing, with_option}
 
 -- ---- the first option, and the later ones
 
@@ -13,6 +14,32 @@ no_words (option.Until date) rest begins = let are = begins.1 in absurd cc
 no_words option.NoBefore rest begins = absurd cc
 no_words option.NoAfter rest begins = absurd cc
 no_words option.NoChain rest begins = absurd cc
+no_words (option.TrustList list) rest begins = let are = begins.1 in absurd cc
+
+-- after `--until` are a date and the rest
+pub record IsUntil (o : CheckOption) (words rest : List (List ℕ)) : Type 0 where
+  pub date : GeneralizedTime
+  pub word : List ℕ
+  pub is : o ≡ option.Until date
+  pub are_words : words ≡ word ∷ rest
+  pub is_date : IsDateWord word date
+
+same_behind : (x : List ℕ) (xs ys : List (List ℕ)) → x ∷ xs ≡ x ∷ ys → xs ≡ ys
+same_behind x xs ys are = cc
+
+same_first : (x y : List ℕ) (xs ys : List (List ℕ)) → x ∷ xs ≡ y ∷ ys → x ≡ y
+same_first x y xs ys are = cc
+
+-- the first of the words is that date
+pub until_first : (word : List ℕ) (words behind rest : List (List ℕ)) (o : CheckOption) → words ≡ word ∷ behind → (h : IsUntil o words rest) → IsDateWord word h.date
+until_first word words behind rest o are h = let same : h.word ≡ word = same_first h.word word rest behind (sym h.are_words ∙ are) in subst (λ (w : List ℕ). IsDateWord w h.date) same h.is_date
+
+pub until_is : (o : CheckOption) (words rest : List (List ℕ)) → BeginsWithOption o (codes "--until" ∷ words) rest → IsUntil o words rest
+until_is (option.Until date) words rest begins = record { date = date; word = begins.0; is = refl; are_words = same_behind (codes "--until") words (begins.0 ∷ rest) begins.1; is_date = begins.2 }
+until_is option.NoBefore words rest begins = absurd cc
+until_is option.NoAfter words rest begins = absurd cc
+until_is option.NoChain words rest begins = absurd cc
+until_is (option.TrustList list) words rest begins = let are = begins.1 in absurd cc
 
 pub none_are : AreOptions [] no_options
 none_are = record { options = []; are_words = refl; once = tt; is = refl }
@@ -72,12 +99,13 @@ pub record AreTogether (a b c : CheckOptions) : Type 0 where
   pub no_before : Joins false a.no_before b.no_before c.no_before
   pub no_after : Joins false a.no_after b.no_after c.no_after
   pub no_chain : Joins false a.no_chain b.no_chain c.no_chain
+  pub list : Joins {A = Option AskedList} None a.list b.list c.list
 
 pub nothing_ahead : (o : CheckOptions) → AreTogether no_options o o
-nothing_ahead o = record { until = inl (refl, refl); no_before = inl (refl, refl); no_after = inl (refl, refl); no_chain = inl (refl, refl) }
+nothing_ahead o = record { until = inl (refl, refl); no_before = inl (refl, refl); no_after = inl (refl, refl); no_chain = inl (refl, refl); list = inl (refl, refl) }
 
 pub nothing_behind : (o : CheckOptions) → AreTogether o no_options o
-nothing_behind o = record { until = inr (refl, refl); no_before = inr (refl, refl); no_after = inr (refl, refl); no_chain = inr (refl, refl) }
+nothing_behind o = record { until = inr (refl, refl); no_before = inr (refl, refl); no_after = inr (refl, refl); no_chain = inr (refl, refl); list = inr (refl, refl) }
 
 joined_ahead : {A : Type 0} (none b c : A) → Joins none none b c → c ≡ b
 joined_ahead none b c (inl h) = h.1
@@ -87,21 +115,24 @@ joined_behind : {A : Type 0} (none a c : A) → Joins none a none c → c ≡ a
 joined_behind none a c (inl h) = h.1 ∙ sym h.0
 joined_behind none a c (inr h) = h.1
 
-same_options : (a b : CheckOptions) → a.until ≡ b.until → a.no_before ≡ b.no_before → a.no_after ≡ b.no_after → a.no_chain ≡ b.no_chain → a ≡ b
-same_options a b until before after chain = λ i. record { until = until i; no_before = before i; no_after = after i; no_chain = chain i }
+same_options : (a b : CheckOptions) → a.until ≡ b.until → a.no_before ≡ b.no_before → a.no_after ≡ b.no_after → a.no_chain ≡ b.no_chain → a.list ≡ b.list → a ≡ b
+same_options a b until before after chain list = λ i. record { until = until i; no_before = before i; no_after = after i; no_chain = chain i; list = list i }
 
 pub all_behind : (b c : CheckOptions) → AreTogether no_options b c → c ≡ b
 all_behind b c h = same_options c b
     (joined_ahead None b.until c.until h.until) (joined_ahead false b.no_before c.no_before h.no_before)
-    (joined_ahead false b.no_after c.no_after h.no_after) (joined_ahead false b.no_chain c.no_chain h.no_chain)
+    (joined_ahead false b.no_after c.no_after h.no_after) (joined_ahead false b.no_chain c.no_chain h.no_chain) (joined_ahead None b.list c.list h.list)
 
 pub all_ahead : (a c : CheckOptions) → AreTogether a no_options c → c ≡ a
 all_ahead a c h = same_options c a
     (joined_behind None a.until c.until h.until) (joined_behind false a.no_before c.no_before h.no_before)
-    (joined_behind false a.no_after c.no_after h.no_after) (joined_behind false a.no_chain c.no_chain h.no_chain)
+    (joined_behind false a.no_after c.no_after h.no_after) (joined_behind false a.no_chain c.no_chain h.no_chain) (joined_behind None a.list c.list h.list)
 
 some_is_not_none : (date : GeneralizedTime) → Some date ≡ None → ⊥
 some_is_not_none date is = absurd cc
+
+some_list_is_not_none : (list : AskedList) → Some list ≡ None → ⊥
+some_list_is_not_none list is = absurd cc
 
 true_is_not_false : true ≡ false → ⊥
 true_is_not_false is = absurd cc
@@ -119,31 +150,37 @@ pub read_one : (first : CheckOption) (a b c : CheckOptions) → IsAbsent first b
     → IsAbsent first a × AreTogether (with_option first a) b c
 read_one (option.Until date) a b c absent h =
     let m = moves None (Some date) a.until b.until c.until (some_is_not_none date) absent h.until in
-    (m.0, record { until = m.1; no_before = h.no_before; no_after = h.no_after; no_chain = h.no_chain })
+    (m.0, record { until = m.1; no_before = h.no_before; no_after = h.no_after; no_chain = h.no_chain; list = h.list })
 read_one option.NoBefore a b c absent h =
     let m = moves false true a.no_before b.no_before c.no_before true_is_not_false absent h.no_before in
-    (m.0, record { until = h.until; no_before = m.1; no_after = h.no_after; no_chain = h.no_chain })
+    (m.0, record { until = h.until; no_before = m.1; no_after = h.no_after; no_chain = h.no_chain; list = h.list })
 read_one option.NoAfter a b c absent h =
     let m = moves false true a.no_after b.no_after c.no_after true_is_not_false absent h.no_after in
-    (m.0, record { until = h.until; no_before = h.no_before; no_after = m.1; no_chain = h.no_chain })
+    (m.0, record { until = h.until; no_before = h.no_before; no_after = m.1; no_chain = h.no_chain; list = h.list })
 read_one option.NoChain a b c absent h =
     let m = moves false true a.no_chain b.no_chain c.no_chain true_is_not_false absent h.no_chain in
-    (m.0, record { until = h.until; no_before = h.no_before; no_after = h.no_after; no_chain = m.1 })
+    (m.0, record { until = h.until; no_before = h.no_before; no_after = h.no_after; no_chain = m.1; list = h.list })
+read_one (option.TrustList list) a b c absent h =
+    let m = moves None (Some list) a.list b.list c.list (some_list_is_not_none list) absent h.list in
+    (m.0, record { until = h.until; no_before = h.no_before; no_after = h.no_after; no_chain = h.no_chain; list = m.1 })
 
 pub unread_one : (first : CheckOption) (a b c : CheckOptions) → IsAbsent first a → AreTogether (with_option first a) b c
     → IsAbsent first b × AreTogether a (with_option first b) c
 unread_one (option.Until date) a b c absent h =
     let m = moves_back None (Some date) a.until b.until c.until (some_is_not_none date) absent h.until in
-    (m.0, record { until = m.1; no_before = h.no_before; no_after = h.no_after; no_chain = h.no_chain })
+    (m.0, record { until = m.1; no_before = h.no_before; no_after = h.no_after; no_chain = h.no_chain; list = h.list })
 unread_one option.NoBefore a b c absent h =
     let m = moves_back false true a.no_before b.no_before c.no_before true_is_not_false absent h.no_before in
-    (m.0, record { until = h.until; no_before = m.1; no_after = h.no_after; no_chain = h.no_chain })
+    (m.0, record { until = h.until; no_before = m.1; no_after = h.no_after; no_chain = h.no_chain; list = h.list })
 unread_one option.NoAfter a b c absent h =
     let m = moves_back false true a.no_after b.no_after c.no_after true_is_not_false absent h.no_after in
-    (m.0, record { until = h.until; no_before = h.no_before; no_after = m.1; no_chain = h.no_chain })
+    (m.0, record { until = h.until; no_before = h.no_before; no_after = m.1; no_chain = h.no_chain; list = h.list })
 unread_one option.NoChain a b c absent h =
     let m = moves_back false true a.no_chain b.no_chain c.no_chain true_is_not_false absent h.no_chain in
-    (m.0, record { until = h.until; no_before = h.no_before; no_after = h.no_after; no_chain = m.1 })
+    (m.0, record { until = h.until; no_before = h.no_before; no_after = h.no_after; no_chain = m.1; list = h.list })
+unread_one (option.TrustList list) a b c absent h =
+    let m = moves_back None (Some list) a.list b.list c.list (some_list_is_not_none list) absent h.list in
+    (m.0, record { until = h.until; no_before = h.no_before; no_after = h.no_after; no_chain = h.no_chain; list = m.1 })
 
 -- there are no words if there isn't a first one
 pub nothing_left : {W : Type 0} (text : W → List ℕ) (words : List W) → length words < 1 → map text words ≡ []

@@ -10,9 +10,9 @@ use Rattle.authenticode_core.specs.declared.policy.Policy.{Policy}
 use Rattle.picky_check.specs.declared.report.Report.{Report}
 use Rattle.picky_check.specs.declared.stop.Stop.{Stop}
 use Rattle.picky_check.specs.declared.stop.Stop.TheVariants as stop
-use Rattle.picky_check.specs.Answer.{IsSignatureAnswer}
 use Rattle.picky_check.specs.Report.{Answer, OfSignature, OfChain, WantsMemory}
 use Rattle.picky_check.specs.Inquiry.{IsReported, GivesReport, Reports}
+use Rattle.picky_check.specs.SignatureAnswer.{IsSignatureAnswer}
 
 -- what is reported is the answer
 pub GivesReport-reported : (answer : Answer) (result : Result Report Stop) → IsReported answer result → GivesReport answer result

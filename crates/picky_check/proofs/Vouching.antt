@@ -1,28 +1,57 @@
 -- What is accepted is vouched for.
-use Rattle.std.proofs.Common.{◌≡◌, List, [], ◌∷◌, ℕ, ◌+◌, length, Option, Result, Ok, Err, inl, inr, subst, arith}
+use Rattle.std.proofs.Common.{◌≡◌, List, [], ◌∷◌, ℕ, ◌+◌, length, Option, Some, None, Result, Ok, Err, inl, inr, refl, subst, arith}
+use Rattle.std.specs.Borrow.{Bor}
 use Rattle.std.proofs.lemmas.List.Sums.{sum_by-cons}
 use Rattle.asn1_types.specs.declared.generalized_time.GeneralizedTime.{GeneralizedTime}
 use Rattle.cms_types.specs.SignedDataElements.{SignedDataElements}
 use Rattle.sig_core.specs.declared.verdict_row.VerdictRow.{VerdictRow}
 use Rattle.sig_core.specs.VerdictTable.{IsTable, verdict_of}
+use Rattle.key_core.specs.Verifying.{Judge}
 use Rattle.authenticode_core.specs.Basic.{HasSignedData}
+use Rattle.authenticode_core.specs.Trusted.{IsAnswer}
 use Rattle.authenticode_core.specs.declared.accepted.Accepted.{Accepted}
+use Rattle.authenticode_core.specs.declared.ctl.CertificateTrustList.{CertificateTrustList}
 use Rattle.authenticode_core.specs.declared.error.CheckError.{CheckError}
+use Rattle.authenticode_core.specs.declared.policy.Policy.{Policy}
 use Rattle.x509_core.specs.declared.error.CertError.{CertError}
-use Rattle.picky_check.specs.declared.options.CheckOptions.{CheckOptions}
-use Rattle.picky_check.specs.Headline.{IsVouchedFor, IsVouchedSignature}
+use Rattle.picky_check.specs.Options.{CheckOptions}
+use Rattle.picky_check.specs.Headline.{IsGivenList, IsVouchedFor, IsVouchedSignature}
 use Rattle.picky_check.specs.Answer.{AnswersRead, IsAnswerTo, table_in}
 use Rattle.picky_check.specs.ReadFiles.{HandsOut, total_length}
 use Rattle.picky_check.specs.ChainHeadline.{IsVouchedChain}
 use Rattle.picky_check.specs.Limits.{AreWholeFiles}
+use Rattle.picky_check.specs.ListOption.{AskedList, list_files}
+use Rattle.picky_check.specs.Policies.{check_policy}
 use Rattle.picky_check.specs.Report.{Answer, OfSignature, OfChain, accepted_line, parents_line, report_line, status_of}
 use Rattle.picky_check.specs.Run.{IsRunAnswer}
-use Rattle.picky_check.specs.Shelf.{ShelfState}
+use Rattle.picky_check.specs.Shelf.{Files, ShelfState}
+use Rattle.picky_check.specs.SignatureAnswer.{IsListAnswer}
 use Rattle.picky_check.specs.Sink.{Appends}
 use Rattle.picky_check.specs.Vouched.{IsVouched}
 use Rattle.picky_check.specs.Words.{Job, Basic, Check, Chain, AsksFor, files_of}
 use Rattle.picky_check.proofs.VouchedChains.{vouched_chain}
 use Rattle.picky_check.proofs.VouchedSignatures.{vouched_basic, vouched_check}
+
+-- The trust list that was read, if there is one, and the acceptance under it.
+record IsGiven (files : Option Files) (judge : Judge) (policy : Option (Bor CertificateTrustList) → Policy) (octets : List ℕ) (a : Accepted)
+    (asked : Option AskedList) (lists : List (List ℕ)) : Type 0 where
+  pub list : Option (Bor CertificateTrustList)
+  pub given : IsGivenList files asked lists list
+  pub answer : IsAnswer judge (policy list) octets (Ok a)
+
+given_list : (files : Option Files) (judge : Judge) (policy : Option (Bor CertificateTrustList) → Policy) (octets : List ℕ) (a : Accepted)
+    (asked : Option AskedList) (lists : List (List ℕ)) → AreWholeFiles files (list_files asked) lists → IsListAnswer judge policy octets lists (OfSignature (Ok a))
+    → IsGiven files judge policy octets a asked lists
+given_list files judge policy octets a None [] are h = record { list = None; given = (refl, refl); answer = h.is }
+given_list files judge policy octets a None (list ∷ lists) are h = absurd are
+given_list files judge policy octets a (Some asked) [] are h = absurd are
+given_list files judge policy octets a (Some asked) (list ∷ more ∷ lists) are h = absurd are.1
+given_list files judge policy octets a (Some asked) (list ∷ []) are (inl unread) = absurd unread
+given_list files judge policy octets a (Some asked) (list ∷ []) are (inr read) = record {
+  list = Some read.0;
+  given = record { octets = list; is_file = are.0; are = refl; given = read.0; is_list = read.1; list_is = refl };
+  answer = read.2.is;
+}
 
 module _ (one_signed_data : (octets : List ℕ) (f g : SignedDataElements) → HasSignedData octets f → HasSignedData octets g → f ≡ g)
     (words : List (List ℕ)) (shelf shelf_now : ShelfState) (held held_now : Option (List ℕ)) where
@@ -31,10 +60,11 @@ module _ (one_signed_data : (octets : List ℕ) (f g : SignedDataElements) → H
   first_and_others first others given =
       subst (λ (n : ℕ). HandsOut n shelf shelf_now) (sum_by-cons (λ (o : List ℕ). length o) first others) given
 
-  both : (first second : List ℕ) → HandsOut (total_length (first ∷ second ∷ [])) shelf shelf_now → HandsOut (length first + length second) shelf shelf_now
-  both first second given =
-      let one = sum_by-cons (λ (o : List ℕ). length o) second [] in
-      subst (λ (n : ℕ). HandsOut n shelf shelf_now) (omega (arith, one)) (first_and_others first (second ∷ []) given)
+  both : (first second : List ℕ) (lists : List (List ℕ)) → HandsOut (total_length (first ∷ second ∷ lists)) shelf shelf_now
+      → HandsOut (length first + length second + total_length lists) shelf shelf_now
+  both first second lists given =
+      let one = sum_by-cons (λ (o : List ℕ). length o) second lists in
+      subst (λ (n : ℕ). HandsOut n shelf shelf_now) (omega (arith, one)) (first_and_others first (second ∷ lists) given)
 
   of_basic : (signature table hash : List ℕ) (contents : List (List ℕ)) (rows : List VerdictRow) (a : Accepted)
       → AsksFor words (Basic signature table hash) → AreWholeFiles shelf.files (files_of (Basic signature table hash)) contents
@@ -45,7 +75,7 @@ module _ (one_signed_data : (octets : List ℕ) (f g : SignedDataElements) → H
   of_basic signature table hash (octets ∷ []) rows a asked are is_table is_answer given written = absurd are.1
   of_basic signature table hash (octets ∷ text ∷ more ∷ others) rows a asked are is_table is_answer given written = absurd are.1.1
   of_basic signature table hash (octets ∷ text ∷ []) rows a asked are is_table is_answer given written =
-      vouched_basic words shelf shelf_now signature table hash octets text rows are.0 are.1.0 (both octets text given) is_table a one_signed_data held held_now written asked is_answer.is
+      vouched_basic words shelf shelf_now signature table hash octets text rows are.0 are.1.0 [] (both octets text [] given) is_table a one_signed_data held held_now written refl asked is_answer.is
 
   of_check : (signature table hash : List ℕ) (date : GeneralizedTime) (options : CheckOptions) (contents : List (List ℕ)) (rows : List VerdictRow) (a : Accepted)
       → AsksFor words (Check signature table hash date options) → AreWholeFiles shelf.files (files_of (Check signature table hash date options)) contents
@@ -54,9 +84,10 @@ module _ (one_signed_data : (octets : List ℕ) (f g : SignedDataElements) → H
       → HandsOut (total_length contents) shelf shelf_now → Appends held (accepted_line a) held_now → IsVouchedSignature words shelf shelf_now held held_now
   of_check signature table hash date options [] rows a asked are is_table is_answer given written = absurd are
   of_check signature table hash date options (octets ∷ []) rows a asked are is_table is_answer given written = absurd are.1
-  of_check signature table hash date options (octets ∷ text ∷ more ∷ others) rows a asked are is_table is_answer given written = absurd are.1.1
-  of_check signature table hash date options (octets ∷ text ∷ []) rows a asked are is_table is_answer given written =
-      vouched_check words shelf shelf_now signature table hash octets text rows are.0 are.1.0 (both octets text given) is_table a one_signed_data held held_now written date options asked is_answer.is
+  of_check signature table hash date options (octets ∷ text ∷ lists) rows a asked are is_table is_answer given written =
+      let list = given_list shelf.files (verdict_of rows) (check_policy hash date options) octets a options.list lists are.1.1 is_answer in
+      vouched_check words shelf shelf_now signature table hash octets text rows are.0 are.1.0 lists (both octets text lists given) is_table a one_signed_data held held_now written
+      date options asked list.list list.given list.answer
 
   of_chain : (table : List ℕ) (date : GeneralizedTime) (names contents : List (List ℕ)) (rows : List VerdictRow) (count : ℕ)
       → AsksFor words (Chain table date names) → AreWholeFiles shelf.files (files_of (Chain table date names)) contents
@@ -76,7 +107,10 @@ module _ (one_signed_data : (octets : List ℕ) (f g : SignedDataElements) → H
   no_chain_for_check : (signature table hash : List ℕ) (date : GeneralizedTime) (options : CheckOptions) (contents : List (List ℕ)) (rows : List VerdictRow)
       (given : Result ℕ CertError) → IsAnswerTo (verdict_of rows) (Check signature table hash date options) contents (OfChain given) → ⊥
   no_chain_for_check signature table hash date options [] rows given is_answer = is_answer
-  no_chain_for_check signature table hash date options (octets ∷ others) rows given is_answer = is_answer
+  no_chain_for_check signature table hash date options (octets ∷ []) rows given is_answer = is_answer
+  no_chain_for_check signature table hash date options (octets ∷ text ∷ []) rows given is_answer = is_answer
+  no_chain_for_check signature table hash date options (octets ∷ text ∷ list ∷ others) rows given (inl unread) = unread
+  no_chain_for_check signature table hash date options (octets ∷ text ∷ list ∷ others) rows given (inr read) = read.2
 
   no_signature_for_chain : (table : List ℕ) (date : GeneralizedTime) (names contents : List (List ℕ)) (rows : List VerdictRow) (given : Result Accepted CheckError)
       → IsAnswerTo (verdict_of rows) (Chain table date names) contents (OfSignature given) → ⊥

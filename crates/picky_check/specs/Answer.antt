@@ -1,19 +1,16 @@
 -- The result for the files of a job, or that the verdict table has a bad line.
-use Rattle.std.specs.Prelude.{ℕ, List, [], ◌∷◌, Option, Result}
+use Rattle.std.specs.Prelude.{ℕ, List, [], ◌∷◌, Option}
 use Rattle.asn1_types.specs.declared.generalized_time.GeneralizedTime.{GeneralizedTime}
 use Rattle.sig_core.specs.declared.verdict_row.VerdictRow.{VerdictRow}
 use Rattle.sig_core.specs.VerdictTable.{IsTable, IsFirstBadLine, verdict_of}
 use Rattle.key_core.specs.Verifying.{Judge}
-use Rattle.authenticode_core.specs.Trusted.{IsAnswer}
-use Rattle.authenticode_core.specs.declared.accepted.Accepted.{Accepted}
-use Rattle.authenticode_core.specs.declared.error.CheckError.{CheckError}
-use Rattle.authenticode_core.specs.declared.policy.Policy.{Policy}
 use Rattle.picky_check.specs.ChainAnswer.{IsChainAnswer}
 use Rattle.picky_check.specs.Limits.{AreWholeFiles}
 use Rattle.picky_check.specs.Policies.{basic_policy, check_policy}
 use Rattle.picky_check.specs.Report.{Answer, OfSignature, OfChain}
 use Rattle.picky_check.specs.ReadFiles.{HandsOut, total_length}
 use Rattle.picky_check.specs.Shelf.{Files, ShelfState}
+use Rattle.picky_check.specs.SignatureAnswer.{IsListAnswer, IsSignatureAnswer}
 use Rattle.picky_check.specs.Words.{Job, Basic, Check, Chain, files_of}
 
 -- the text of the verdict table, among the contents of the files
@@ -22,17 +19,6 @@ table_in (Basic signature table hash) (octets ∷ text ∷ others) = text
 table_in (Check signature table hash date options) (octets ∷ text ∷ others) = text
 table_in (Chain table date certificates) (text ∷ others) = text
 table_in job contents = []
-
--- A result of the check of a signature file under a policy. It is a record, so that proofs pass it
--- on as one thing.
-pub record IsCheckAnswer (judge : Judge) (policy : Policy) (octets : List ℕ)
-    (given : Result Accepted CheckError) : Type 0 where
-  pub is : IsAnswer judge policy octets given
-
--- a result for the octets of a signature file
-abbrev pub IsSignatureAnswer : Judge → Policy → (octets : List ℕ) → Answer → Type 0
-IsSignatureAnswer judge policy octets (OfSignature given) = IsCheckAnswer judge policy octets given
-IsSignatureAnswer judge policy octets (OfChain given) = ⊥
 
 -- a result for the octets of certificates
 abbrev pub IsCertificateAnswer : Judge → GeneralizedTime → List (List ℕ) → Answer → Type 0
@@ -43,8 +29,8 @@ IsCertificateAnswer judge date octets (OfChain given) = IsChainAnswer judge date
 abbrev pub IsAnswerTo : Judge → Job → List (List ℕ) → Answer → Type 0
 IsAnswerTo judge (Basic signature table hash) (octets ∷ others) answer =
     IsSignatureAnswer judge (basic_policy hash) octets answer
-IsAnswerTo judge (Check signature table hash date options) (octets ∷ others) answer =
-    IsSignatureAnswer judge (check_policy hash date options) octets answer
+IsAnswerTo judge (Check signature table hash date options) (octets ∷ text ∷ lists) answer =
+    IsListAnswer judge (check_policy hash date options) octets lists answer
 IsAnswerTo judge (Chain table date certificates) (text ∷ octets) answer =
     IsCertificateAnswer judge date octets answer
 IsAnswerTo judge job contents answer = ⊥

@@ -1,10 +1,13 @@
 -- The policies of the commands for a signature file.
-use Rattle.std.specs.Prelude.{ℕ, List, [], Option, Some, None, true, false, not, pos}
+use Rattle.std.specs.Prelude.{ℕ, List, [], Option, Some, None, true, false, not, pos, is_some}
+use Rattle.std.specs.Borrow.{Bor}
 use Rattle.asn1_types.specs.declared.generalized_time.GeneralizedTime.{GeneralizedTime}
+use Rattle.authenticode_core.specs.declared.ctl.CertificateTrustList.{CertificateTrustList}
 use Rattle.authenticode_core.specs.declared.policy.Policy.{Policy}
 use Rattle.x509_core.specs.declared.window.DateCheck.{DateCheck}
 use Rattle.x509_core.specs.declared.window.DateCheck.TheVariants as dates
-use Rattle.picky_check.specs.declared.options.CheckOptions.{CheckOptions}
+use Rattle.picky_check.specs.Options.{CheckOptions}
+use Rattle.picky_check.specs.ListOption.{list_moment}
 
 -- basic: the form, the digest HASH and the signature, without the signer's certificate and without a
 -- trust list
@@ -30,9 +33,11 @@ moments date None = dates.Exact date
 moments date (Some other) = dates.Interval date other
 
 -- check: the same, and the signer's certificate with those of its issuers, all of them valid at
--- DATE or the signer's expiry excused, except for what the options leave out; without a trust list
-abbrev pub check_policy : (hash : List ℕ) → (date : GeneralizedTime) → CheckOptions → Policy
-check_policy hash date o = record {
+-- DATE or the signer's expiry excused, except for what the options leave out; and, if a trust list
+-- is given, the CA of the signer on it at the moment of the options. No CA is excluded.
+abbrev pub check_policy : (hash : List ℕ) → (date : GeneralizedTime) → CheckOptions
+    → Option (Bor CertificateTrustList) → Policy
+check_policy hash date o given = record {
   basic = true;
   file_hash = Some hash;
   signing = true;
@@ -40,9 +45,9 @@ check_policy hash date o = record {
   not_after = not o.no_after;
   chain = not o.no_chain;
   date = moments date o.until;
-  against_list = false;
-  list = None;
-  now = pos 0;
+  against_list = is_some given;
+  list = given;
+  now = list_moment o.list;
   exclude = false;
   excluded = [];
 }

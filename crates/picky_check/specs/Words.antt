@@ -3,16 +3,16 @@ use Rattle.std.specs.Prelude.{◌≡◌, ◌≤◌, ℕ, List, [], ◌∷◌, le
 use Rattle.hex.specs.Hex.{decode_of}
 use Rattle.hex.specs.declared.error.FromHexError.{FromHexError}
 use Rattle.asn1_types.specs.declared.generalized_time.GeneralizedTime.{GeneralizedTime}
-use Rattle.picky_check.specs.declared.options.CheckOptions.{CheckOptions}
 use Rattle.picky_check.specs.DateWord.{IsDateWord}
-use Rattle.picky_check.specs.Options.{AreOptions}
+use Rattle.picky_check.specs.ListOption.{list_files}
+use Rattle.picky_check.specs.Options.{AreOptions, CheckOptions}
 
 -- a command with its arguments
 pub data Job : Type 0 where
   -- the form of the file SIG, its digest HASH, and its signature, which TABLE accepts
   Basic : (signature table hash : List ℕ) → Job
   -- the same, and the signer's certificate with those of its issuers, at DATE, except for what the
-  -- options leave out
+  -- options leave out; and its CA on a trust list, if they name one
   Check : (signature table hash : List ℕ) → (date : GeneralizedTime) → (options : CheckOptions)
       → Job
   -- the first of the files CERT with the others as its parents, at DATE, by the signatures that
@@ -22,7 +22,8 @@ pub data Job : Type 0 where
 -- the names of its files, in the order of reading
 abbrev pub files_of : Job → List (List ℕ)
 files_of (Basic signature table hash) = signature ∷ table ∷ []
-files_of (Check signature table hash date options) = signature ∷ table ∷ []
+files_of (Check signature table hash date options) =
+    signature ∷ table ∷ list_files options.list
 files_of (Chain table date certificates) = table ∷ certificates
 
 -- these octets, if there are 1 to 64

@@ -4,21 +4,26 @@ ghost use Rattle.std.specs.Prelude.{◌≡◌, ◌⊎◌, ◌∷◌, ℕ, Err, l
 ghost use Rattle.der_core.specs.Counts.{FailsOnce};
 ghost use Rattle.sig_core.specs.declared.verdict_row.VerdictRow.{VerdictRow};
 ghost use Rattle.sig_core.specs.VerdictTable.{IsTable, IsFirstBadLine, verdict_of};
-ghost use Rattle.picky_check.specs.Answer.{IsAnswerTo, IsCertificateAnswer, IsSignatureAnswer, table_in};
+ghost use Rattle.picky_check.specs.Answer.{IsAnswerTo, IsCertificateAnswer, table_in};
 ghost use Rattle.picky_check.specs.Inquiry.{IsReportOf, GivesReport, GivesStop, StopsForText, IsInquiry, Inquires, Reports};
-ghost use Rattle.picky_check.specs.Jobs.{contents_held, job_held};
+ghost use Rattle.picky_check.specs.Jobs.{contents_held, job_held, options_held};
+ghost use Rattle.picky_check.specs.Policies.{check_policy};
 ghost use Rattle.picky_check.specs.ReadFiles.{HandsOutAtMost};
 ghost use Rattle.picky_check.specs.Report.{Answer};
+ghost use Rattle.picky_check.specs.SignatureAnswer.{IsListAnswer, IsSignatureAnswer};
 ghost use Rattle.picky_check.specs.Words.{AsksFor, AsksForNothing, Job as AskedJob, files_of};
 
 use crate::Shelf;
 use crate::chain::check_chain;
 use crate::files::{Contents, read_files};
+use crate::options::CheckOptions;
 use crate::policies::{basic_policy, check_policy};
 use crate::report::{Report, chain_report_of, report_of};
 use crate::stop::Stop;
 use crate::words::{Job, job_of};
-use authenticode_core::{Policy, check_wincert};
+use authenticode_core::{
+    AuthenticodeError, CertificateTrustList, CheckError, Policy, check_wincert,
+};
 use names_core::UtcDate;
 use sig_core::{Scheme, VerdictTable};
 use std::alloc::Global;
@@ -111,12 +116,46 @@ fn judge_by<S: Scheme>(
             date,
             options,
             ..
-        } => {
-            let policy = check_policy(alloc, hash, *date, *options)?;
-            judge_signature(alloc, &read.first, &policy, scheme)
-        }
+        } => judge_listed(
+            alloc,
+            &read.first,
+            &read.others,
+            hash,
+            *date,
+            options,
+            scheme,
+        ),
         Job::Chain { date, .. } => judge_chain(alloc, &read.second, &read.others, date, scheme),
     }
+}
+
+/// The report on the octets of a signature file, by a scheme and the options of `check`, the octets
+/// of whose trust list are the first of `lists`.
+fn judge_listed<S: Scheme>(
+    alloc: Global,
+    octets: &[u8],
+    lists: &[Vec<u8>],
+    hash: &[u8],
+    date: UtcDate,
+    options: &CheckOptions<'_>,
+    scheme: &S,
+) -> Result<Report, Stop>
+    ensures { Reports (IsListAnswer (S.judge scheme.now) (check_policy hash.now date (options_held options.now))
+        octets.now (map (λ octets. octets.items) lists.now)) result }
+{
+    let [list, ..] = lists else {
+        let policy = check_policy(alloc, hash, date, options, None)?;
+        return judge_signature(alloc, octets, &policy, scheme);
+    };
+    let list = match CertificateTrustList::from_der(alloc, list) {
+        Ok(list) => list,
+        Err(error) => {
+            let refusal = CheckError::from(AuthenticodeError::from(error));
+            return report_of(alloc, &Err(refusal));
+        }
+    };
+    let policy = check_policy(alloc, hash, date, options, Some(&list))?;
+    judge_signature(alloc, octets, &policy, scheme)
 }
 
 /// The report on the octets of a signature file, by a scheme and a policy.

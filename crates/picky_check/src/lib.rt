@@ -12,6 +12,7 @@ mod options;
 mod policies;
 mod program;
 mod report;
+mod seconds;
 mod shelf;
 mod sink;
 mod stop;

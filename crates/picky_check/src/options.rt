@@ -1,16 +1,27 @@
 //! The options of `check`, after its DATE.
 
-ghost use Rattle.std.specs.Prelude.{◌≡◌, ◌≤◌, ◌∷◌, codes, ℕ, List, length, map, string_bytes, Some, IfSome, MatchOption};
-ghost use Rattle.picky_check.specs.Options.{AreOptions, BeginsWithOption, IsAbsent, no_options, with_option};
-ghost use Rattle.picky_check.specs.declared.options.CheckOption.{CheckOption as OptionOfCheck};
-ghost use Rattle.picky_check.specs.declared.options.CheckOptions.{CheckOptions as OptionsOfCheck};
+ghost use Rattle.std.specs.Prelude.{◌≡◌, ◌≤◌, ◌∷◌, codes, ℕ, List, length, map, option_map, string_bytes, Some, IfSome, MatchOption};
+ghost use Rattle.picky_check.specs.ListOption.{list_files};
+ghost use Rattle.picky_check.specs.Jobs.{option_held, options_held};
+ghost use Rattle.picky_check.specs.Options.{AreOptions, BeginsWithOption, CheckOption as OptionOfCheck, CheckOptions as OptionsOfCheck, IsAbsent, with_option};
 
 use crate::dates::date_of;
+use crate::seconds::seconds_of;
 use names_core::UtcDate;
+use std::slice;
+
+/// The option `--list FILE SECONDS`.
+#[derive(Clone, Copy, Debug)]
+pub(crate) struct ListOption<'a> {
+    /// The file with the trust list.
+    pub(crate) file: &'a String,
+    /// When the signer's CA must be on it, in seconds since 1601-01-01, UTC.
+    pub(crate) seconds: i64,
+}
 
 /// An option of `check`.
 #[derive(Clone, Copy, Debug)]
-pub(crate) enum CheckOption {
+pub(crate) enum CheckOption<'a> {
     /// `--until DATE`: the other end of the interval.
     Until(UtcDate),
     /// `--no-before`: a certificate needn't have begun to be valid.
@@ -19,52 +30,58 @@ pub(crate) enum CheckOption {
     NoAfter,
     /// `--no-chain`: the signer's certificate needn't be linked to those of its issuers.
     NoChain,
+    /// `--list FILE SECONDS`: the signer's CA must be on a trust list.
+    TrustList(ListOption<'a>),
 }
 
 /// The options given after DATE.
 #[derive(Clone, Copy, Debug)]
-pub(crate) struct CheckOptions {
+pub(crate) struct CheckOptions<'a> {
     pub(crate) until: Option<UtcDate>,
     pub(crate) no_before: bool,
     pub(crate) no_after: bool,
     pub(crate) no_chain: bool,
+    pub(crate) list: Option<ListOption<'a>>,
 }
 
-impl CheckOptions {
-    /// No options.
-    fn none() -> Self
-        ensures { result ≡ no_options }
+impl<'a> CheckOptions<'a> {
+    /// The name of the file with the trust list, if there is one.
+    pub(crate) fn list_file(&self) -> &'a [String]
+        ensures { map string_bytes result.now ≡ list_files (options_held self.now).list }
     {
-        CheckOptions {
-            until: None,
-            no_before: false,
-            no_after: false,
-            no_chain: false,
+        match self.list {
+            Some(list) => slice::from_ref(list.file),
+            None => &[],
         }
     }
 
     /// The options with one more, None if it is given already.
-    fn with(self, option: CheckOption) -> Option<Self>
+    fn with(&self, option: &CheckOption<'a>) -> Option<CheckOptions<'a>>
         ensures { MatchOption result
-            (IsAbsent option self → ⊥)
-            (λ more. IsAbsent option self × (more ≡ with_option option self)) }
+            (IsAbsent (option_held option.now) (options_held self.now) → ⊥)
+            (λ more. IsAbsent (option_held option.now) (options_held self.now)
+            × (options_held more ≡ with_option (option_held option.now) (options_held self.now))) }
     {
         match option {
             CheckOption::Until(date) if self.until.is_none() => Some(CheckOptions {
-                until: Some(date),
-                ..self
+                until: Some(*date),
+                ..*self
             }),
             CheckOption::NoBefore if !self.no_before => Some(CheckOptions {
                 no_before: true,
-                ..self
+                ..*self
             }),
             CheckOption::NoAfter if !self.no_after => Some(CheckOptions {
                 no_after: true,
-                ..self
+                ..*self
             }),
             CheckOption::NoChain if !self.no_chain => Some(CheckOptions {
                 no_chain: true,
-                ..self
+                ..*self
+            }),
+            CheckOption::TrustList(list) if self.list.is_none() => Some(CheckOptions {
+                list: Some(*list),
+                ..*self
             }),
             _ => None,
         }
@@ -72,20 +89,29 @@ impl CheckOptions {
 }
 
 /// Parses the words as options. None exactly if they aren't options, each at most once.
-pub(crate) fn options_of(words: &[String]) -> Option<CheckOptions>
+pub(crate) fn options_of(words: &[String]) -> Option<CheckOptions<'_>>
     ensures answer { MatchOption result
         ((options : OptionsOfCheck) → AreOptions (map string_bytes words.now) options → ⊥)
-        (AreOptions (map string_bytes words.now)) }
+        (λ options. AreOptions (map string_bytes words.now) (options_held options)) }
     ensures only { (options : OptionsOfCheck) → AreOptions (map string_bytes words.now) options
-        → result ≡ Some options }
+        → option_map options_held result ≡ Some options }
 {
-    let mut options = CheckOptions::none();
+    let mut options = CheckOptions {
+        until: None,
+        no_before: false,
+        no_after: false,
+        no_chain: false,
+        list: None,
+    };
     let mut rest = words;
     while let [word, others @ ..] = rest {
         let Some(FirstOption { option, behind }) = first_option(word.as_str(), others) else {
             return None;
         };
-        options = options.with(option)?;
+        let Some(more) = options.with(&option) else {
+            return None;
+        };
+        options = more;
         rest = behind;
     }
     Some(options)
@@ -94,17 +120,17 @@ pub(crate) fn options_of(words: &[String]) -> Option<CheckOptions>
 /// An option, and the words after it.
 #[derive(Clone, Copy, Debug)]
 struct FirstOption<'a> {
-    option: CheckOption,
+    option: CheckOption<'a>,
     behind: &'a [String],
 }
 
 /// The option at the start of the words: a word, and those after it.
 fn first_option<'a>(word: &str, others: &'a [String]) -> Option<FirstOption<'a>>
-    ensures first { IfSome result (λ first. BeginsWithOption first.option
+    ensures first { IfSome result (λ first. BeginsWithOption (option_held first.option)
         (word.now ∷ map string_bytes others.now) (map string_bytes first.behind.now)) }
     ensures only { (option : OptionOfCheck) (rest : List (List ℕ))
         → BeginsWithOption option (word.now ∷ map string_bytes others.now) rest
-        → MatchOption result ⊥ (λ first. (first.option ≡ option)
+        → MatchOption result ⊥ (λ first. (option_held first.option ≡ option)
         × (map string_bytes first.behind.now ≡ rest)) }
     ensures fewer { IfSome result (λ first. length first.behind.now ≤ length others.now) }
 {
@@ -113,6 +139,7 @@ fn first_option<'a>(word: &str, others: &'a [String]) -> Option<FirstOption<'a>>
         "--no-before" => CheckOption::NoBefore,
         "--no-after" => CheckOption::NoAfter,
         "--no-chain" => CheckOption::NoChain,
+        "--list" => return list_of(others),
         _ => return None,
     };
     Some(FirstOption {
@@ -123,11 +150,11 @@ fn first_option<'a>(word: &str, others: &'a [String]) -> Option<FirstOption<'a>>
 
 /// The option `--until`, whose DATE is the first of the words.
 fn until_of(words: &[String]) -> Option<FirstOption<'_>>
-    ensures first { IfSome result (λ first. BeginsWithOption first.option
+    ensures first { IfSome result (λ first. BeginsWithOption (option_held first.option)
         (codes "--until" ∷ map string_bytes words.now) (map string_bytes first.behind.now)) }
     ensures only { (option : OptionOfCheck) (rest : List (List ℕ))
         → BeginsWithOption option (codes "--until" ∷ map string_bytes words.now) rest
-        → MatchOption result ⊥ (λ first. (first.option ≡ option)
+        → MatchOption result ⊥ (λ first. (option_held first.option ≡ option)
         × (map string_bytes first.behind.now ≡ rest)) }
     ensures fewer { IfSome result (λ first. length first.behind.now ≤ length words.now) }
 {
@@ -137,6 +164,26 @@ fn until_of(words: &[String]) -> Option<FirstOption<'_>>
     let date = date_of(date.as_str())?;
     Some(FirstOption {
         option: CheckOption::Until(date),
+        behind,
+    })
+}
+
+/// The option `--list`, whose FILE and SECONDS are the first of the words.
+fn list_of(words: &[String]) -> Option<FirstOption<'_>>
+    ensures first { IfSome result (λ first. BeginsWithOption (option_held first.option)
+        (codes "--list" ∷ map string_bytes words.now) (map string_bytes first.behind.now)) }
+    ensures only { (option : OptionOfCheck) (rest : List (List ℕ))
+        → BeginsWithOption option (codes "--list" ∷ map string_bytes words.now) rest
+        → MatchOption result ⊥ (λ first. (option_held first.option ≡ option)
+        × (map string_bytes first.behind.now ≡ rest)) }
+    ensures fewer { IfSome result (λ first. length first.behind.now ≤ length words.now) }
+{
+    let [file, seconds, behind @ ..] = words else {
+        return None;
+    };
+    let seconds = seconds_of(seconds.as_str())?;
+    Some(FirstOption {
+        option: CheckOption::TrustList(ListOption { file, seconds }),
         behind,
     })
 }

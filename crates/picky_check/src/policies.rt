@@ -1,10 +1,12 @@
 //! The policies of the commands for a signature file.
 
-ghost use Rattle.std.specs.Prelude.{◌≡◌, IfOk};
+ghost use Rattle.std.specs.Prelude.{◌≡◌, IfOk, option_map};
+ghost use Rattle.picky_check.specs.Jobs.{list_held, options_held};
+ghost use Rattle.picky_check.specs.ListOption.{list_moment};
 ghost use Rattle.picky_check.specs.Policies.{basic_policy, check_policy, moments};
 
-use crate::options::CheckOptions;
-use authenticode_core::{DateCheck, Policy};
+use crate::options::{CheckOptions, ListOption};
+use authenticode_core::{CertificateTrustList, DateCheck, Policy};
 use der_core::Octets;
 use names_core::{NameList, UtcDate};
 use std::alloc::{AllocError, Global};
@@ -29,14 +31,15 @@ pub(crate) fn basic_policy(alloc: Global, hash: &[u8]) -> Result<Policy<'static>
     })
 }
 
-/// The policy of `check`, by its options.
-pub(crate) fn check_policy(
+/// The policy of `check`, by its options and the trust list that was read from their file.
+pub(crate) fn check_policy<'a>(
     alloc: Global,
     hash: &[u8],
     date: UtcDate,
-    options: CheckOptions,
-) -> Result<Policy<'static>, AllocError>
-    ensures { IfOk result (λ policy. policy ≡ check_policy hash.now date options) }
+    options: &CheckOptions<'_>,
+    list: Option<&'a CertificateTrustList>,
+) -> Result<Policy<'a>, AllocError>
+    ensures { IfOk result (λ policy. policy ≡ check_policy hash.now date (options_held options.now) list.entry) }
 {
     Ok(Policy {
         basic: true,
@@ -46,12 +49,22 @@ pub(crate) fn check_policy(
         not_after: !options.no_after,
         chain: !options.no_chain,
         date: moments(date, options.until),
-        against_list: false,
-        list: None,
-        now: 0,
+        against_list: list.is_some(),
+        list,
+        now: moment(options.list),
         exclude: false,
         excluded: NameList::new(alloc),
     })
+}
+
+/// The moment at which the CA must be on the trust list, 0 without one.
+fn moment(list: Option<ListOption<'_>>) -> i64
+    ensures { result ≡ list_moment (option_map list_held list.entry) }
+{
+    match list {
+        Some(list) => list.seconds,
+        None => 0,
+    }
 }
 
 /// The date, or the interval from it to another one.

@@ -32,7 +32,7 @@ pub(crate) enum Job<'a> {
         table: &'a str,
         hash: Vec<u8>,
         date: UtcDate,
-        options: CheckOptions,
+        options: CheckOptions<'a>,
     },
     /// Validates a certificate with its parents, at a date.
     Chain {
@@ -53,15 +53,20 @@ impl Job<'_> {
                 signature,
                 table,
                 ..
-            }
-            | Job::Check {
-                signature,
-                table,
-                ..
             } => Names {
                 first: signature,
                 second: table,
                 others: &[],
+            },
+            Job::Check {
+                signature,
+                table,
+                options,
+                ..
+            } => Names {
+                first: signature,
+                second: table,
+                others: options.list_file(),
             },
             Job::Chain {
                 table,
