@@ -22,8 +22,8 @@ docs/MANUAL.md and of refusals in docs/FORMATS.md.  The certificates of
 `chain` are those of `chains.py`, which openssl made, and the answers to them
 are those of the reader in `chain_reader.py`, and those of
 `issuing_chains.py`, with answers by hand.  The files of `check` are those of
-`check_rows.py`, whose answers stand there, and programs that osslsigncode
-signed (`signed_programs.py`), whose answers are those of `check_judge.py`.
+`check_rows.py` and `list_rows.py`, whose answers stand there, and programs that
+osslsigncode signed (`signed_programs.py`), whose answers are those of `check_judge.py`.
 Exit status 1 says that a row differs.
 """
 
@@ -38,7 +38,7 @@ from pathlib import Path
 
 sys.path.insert(0, str(Path(__file__).resolve().parents[1]))
 
-from cases import basic_steps, basic_world, check_parts, check_rows
+from cases import basic_steps, basic_world, check_parts, check_rows, list_rows
 from cases import issuing_chains as issued
 from cases.first_path import FILE_HASH, signature_file, verdict_line
 from common import command
@@ -415,11 +415,15 @@ def day_of(digits):
 
 def words_of(policy):
     """The words behind HASH for a policy, None where there are none."""
-    if not (policy.basic and policy.signing and policy.file_hash and policy.lower) or policy.against_list or policy.trust_list is not None:
+    is_listed = policy.trust_list is not None
+    if not (policy.basic and policy.signing and policy.file_hash and policy.lower) or policy.exclude or policy.against_list != is_listed:
+        return None
+    if policy.now not in range(10**18):
         return None
     options = [f"--no-{word}" for word, is_on in (("before", policy.not_before), ("after", policy.not_after), ("chain", policy.chain)) if not is_on]
     until = ["--until", day_of(policy.upper)] if policy.upper else []
-    return (day_of(policy.lower), *options, *until)
+    listed = ["--list", "l", str(policy.now)] if is_listed else []
+    return (day_of(policy.lower), *options, *until, *listed)
 
 
 def line_of(said):
@@ -436,7 +440,8 @@ def of_each_answer():
         kind = line if line.startswith("refused") else (line.split("excuse=")[1], words and words[1:])
         if words and kind not in known and row.policy.file_hash == FILE_HASH:
             known.add(kind)
-            yield of_check(row.why, words, 1 if line.startswith("refused") else 0, line, row.file)
+            others = {} if row.policy.trust_list is None else {"l": row.policy.trust_list}
+            yield of_check(row.why, words, 1 if line.startswith("refused") else 0, line, row.file, **others)
 
 
 def of_program(label, date, *options, in_order=True):
@@ -495,7 +500,6 @@ CHECK_ROWS = [
     refused_words("an empty word too many", DAY, ""),
     *(refused_words(f"the word {word!r}", DAY, word) for word in (
         "--no-date", "--No-chain", "--no-chain ", "-no-chain", "no-chain", "--no_chain", "--no-chain=", "--no", "--until=2026-01-01", "--", "-", "--help", "--after", "--no-signing")),
-    refused_words("a list", DAY, "--list", "l", "1"),
     refused_words("an option that isn't UTF-8", DAY, b"--no-chain\xff"),
     refused_words("no date"),
     *(Row(f"check: {why}", words, 2) for why, words in (
@@ -542,9 +546,75 @@ CHECK_ROWS = [
     Row("check: the longest signature file", (*CHECK, DAY), 1, refused("CertificateDataIsEmpty"), {"s": Zeros(LONGEST_FILE), "t": TABLE}),
     Row("check: a signature file of an octet more", (*CHECK, DAY), 6, files={"s": Zeros(LONGEST_FILE + 1), "t": TABLE}),
     Row("check: a table of an octet more", (*CHECK, DAY), 6, files={"s": SIGNATURE, "t": Zeros(LONGEST_FILE + 1)}),
+    # trust lists
     Row("check: a full device", (*CHECK, DAY), 5, files={"s": SIGNATURE, "t": TABLE}, output="full"),
     Row("check: a closed output for a refusal", (*CHECK, AFTER), 5, files={"s": SIGNATURE, "t": TABLE}, output="closed"),
     Row("check: nothing to write to a closed output", CHECK, 2, output="closed"),
+]
+
+
+# Trust lists: the CA of the signer is R.
+
+LISTED, ENDED = list_rows.list_with(b"R"), list_rows.list_of(list_rows.entry_of(b"R", list_rows.ends("ff" * 8)))
+LIST = ("--list", "l", "1")
+UNLISTED, UNREAD, CA_EXPIRED = refused("CAIsNotTrusted"), refused("FailedToParseCtl"), refused("CaCertificateExpired")
+LAST_SECOND = "9" * 18
+
+
+def of_list(why, words, status, line="", l=LISTED, **others):
+    """A row with these words behind HASH, and a list."""
+    return of_check(f"a list: {why}", words, status, line, l=l, **others)
+
+
+LIST_ROWS = [
+    of_list("the CA is on it", (DAY, *LIST), 0, WITH_PATH),
+    of_list("the CA isn't on it", (DAY, *LIST), 1, UNLISTED, list_rows.EMPTY),
+    # seconds
+    of_list("an end of 0 seconds, at 0", (DAY, "--list", "l", "0"), 0, WITH_PATH, ENDED),
+    of_list("an end of 0 seconds, at 1", (DAY, "--list", "l", "1"), 1, CA_EXPIRED, ENDED),
+    of_list("18 digits", (DAY, "--list", "l", LAST_SECOND), 0, WITH_PATH),
+    of_list("18 digits behind the end", (DAY, "--list", "l", LAST_SECOND), 1, CA_EXPIRED, ENDED),
+    of_list("18 zeros", (DAY, "--list", "l", "0" * 18), 0, WITH_PATH, ENDED),
+    of_list("zeros in front", (DAY, "--list", "l", "1".zfill(18)), 1, CA_EXPIRED, ENDED),
+    *(of_list(f"the seconds {word!r}", (DAY, "--list", "l", word), 2) for word in (
+        "", "9" * 19, "0" * 19, "+1", "-1", "-0", " 1", "1 ", "1.0", "0x1", "1e3", "1_000", "a", "\u0661", "--no-chain")),
+    # words
+    of_list("in front of all options", (AFTER, *LIST, *OPTIONS), 0, WITHOUT_PATH),
+    of_list("behind all options", (AFTER, *OPTIONS, *LIST), 0, WITHOUT_PATH),
+    of_list("between others", (AFTER, "--no-chain", *LIST, "--no-after"), 0, WITHOUT_PATH),
+    of_list("twice", (DAY, *LIST, *LIST), 2),
+    of_list("twice, of other words", (DAY, *LIST, "--no-chain", "--list", "s", "2"), 2),
+    of_list("no words", (DAY, "--list"), 2),
+    of_list("no seconds", (DAY, "--list", "l"), 2),
+    of_list("a word too many", (DAY, *LIST, "1"), 2),
+    of_list("in the place of the date", (*LIST, DAY), 2),
+    *(of_list(f"the option {word!r}", (DAY, word, "l", "1"), 2) for word in ("--List", "--lists", "-list", "--list=l", "--ctl")),
+    Row("check: a list: a name like an option", (*CHECK, DAY, "--list", "--no-chain", "1"), 0, WITH_PATH,
+        {"s": CHECKED.octets, "t": CHECKED.table.encode("ascii"), "--no-chain": LISTED}),
+    Row("check: a list: a name like itself", (*CHECK, DAY, "--list", "--list", "1"), 0, WITH_PATH,
+        {"s": CHECKED.octets, "t": CHECKED.table.encode("ascii"), "--list": LISTED}),
+    Row("check: a list from a pipe", (*CHECK, DAY, "--list", PIPE, "1"), 0, WITH_PATH, {"s": CHECKED.octets, "t": CHECKED.table.encode("ascii")}, given=LISTED),
+    Row("check: a list for `basic`", (*BASIC, *LIST), 2),
+    Row("check: a list for `chain` is three files", ("chain", "t", DAY, *LIST), 4, files={"t": CHAIN_TABLE}),
+    # what is no list, and what comes first
+    of_list("no octets", (DAY, *LIST), 1, UNREAD, b""),
+    of_list("another structure", (DAY, *LIST), 1, UNREAD, EMPTY),
+    of_list("an octet behind", (DAY, *LIST), 1, UNREAD, LISTED + b"\0"),
+    of_list("not read, before what is no signature", (DAY, *LIST), 1, UNREAD, EMPTY, s=b""),
+    of_list("not read, before an expired signer", (AFTER, *LIST), 1, UNREAD, EMPTY),
+    of_list("a bad table before a list that isn't read", (DAY, *LIST), 3, l=EMPTY, t=BAD_TABLE),
+    of_list("the links before the list", (AFTER, *LIST), 1, LATE, list_rows.EMPTY),
+    # files
+    Row("check: no list", (*CHECK, DAY, *LIST), 4, files={"s": SIGNATURE, "t": TABLE}),
+    Row("check: no list, and a bad table", (*CHECK, DAY, *LIST), 4, files={"s": SIGNATURE, "t": BAD_TABLE}),
+    Row("check: a folder for the list", (*CHECK, DAY, *LIST), 4, files={"s": SIGNATURE, "t": TABLE, "l": Folder()}),
+    of_list("the longest one", (DAY, *LIST), 1, UNREAD, Zeros(LONGEST_FILE)),
+    of_list("an octet more", (DAY, *LIST), 6, l=Zeros(LONGEST_FILE + 1)),
+    of_list("an octet more, and a bad table", (DAY, *LIST), 6, l=Zeros(LONGEST_FILE + 1), t=BAD_TABLE),
+    Row("check: a list, and a full device", (*CHECK, DAY, *LIST), 5, output="full",
+        files={"s": CHECKED.octets, "t": CHECKED.table.encode("ascii"), "l": LISTED}),
+    Row("check: a list that isn't read, and a closed output", (*CHECK, DAY, *LIST), 5, output="closed",
+        files={"s": CHECKED.octets, "t": CHECKED.table.encode("ascii"), "l": EMPTY}),
 ]
 
 
@@ -581,6 +651,7 @@ ROWS = [
     *LENGTH_ROWS,
     *CHAIN_ROWS,
     *CHECK_ROWS,
+    *LIST_ROWS,
     *ISSUED_ROWS,
 ]
 

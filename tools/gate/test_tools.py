@@ -781,7 +781,7 @@ class RunsTest(unittest.TestCase):
         self.assertEqual({row.status for row in run_program.ROWS}, set(range(7)))
         names = {row.line.split()[1] for row in run_program.ROWS if row.status == 1 and row.words[0] == "basic"}
         self.assertEqual(names, {said.split()[0] for *_, said in xgolden_basic.rows()} - {"accepted"})
-        checked = {row.line for row in run_program.CHECK_ROWS}
+        checked = {row.line for row in run_program.CHECK_ROWS + run_program.LIST_ROWS}
         lines = (run_program.line_of(row.said) for row in check_rows.rows() if run_program.words_of(row.policy))
         self.assertEqual({line for line in lines if line.startswith("refused")} - checked, set())
         reasons = [row.why for row in run_program.ROWS]

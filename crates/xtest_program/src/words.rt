@@ -12,7 +12,7 @@ const OCTETS_65: &str = "000102030405060708090a0b0c0d0e0f101112131415161718191a1
 
 // Words, and whether they request a job.
 #[rattlefmt::skip]
-const WORDS: [(&str, &[&str], bool); 52] = [
+const WORDS: [(&str, &[&str], bool); 70] = [
     ("no words",            &[],                              false),
     ("a command alone",     &["basic"],                       false),
     ("a word too few",      &["basic", "s", "t"],             false),
@@ -64,6 +64,24 @@ const WORDS: [(&str, &[&str], bool); 52] = [
     ("a word between",      &["check", "s", "t", "00", "2025-01-31", "--no-after", "s", "--no-chain"], false),
     ("another option",      &["check", "s", "t", "00", "2025-01-31", "--help"], false),
     ("in another case",     &["check", "s", "t", "00", "2025-01-31", "--No-Chain"], false),
+    ("a list",              &["check", "s", "t", "00", "2025-01-31", "--list", "t", "0"], true),
+    ("of 18 digits",        &["check", "s", "t", "00", "2025-01-31", "--list", "t", "999999999999999999"], true),
+    ("leading zeros",       &["check", "s", "t", "00", "2025-01-31", "--list", "t", "000000000000000000"], true),
+    ("of 19 digits",        &["check", "s", "t", "00", "2025-01-31", "--list", "t", "0000000000000000000"], false),
+    ("of no digit",         &["check", "s", "t", "00", "2025-01-31", "--list", "t", ""], false),
+    ("with a plus",         &["check", "s", "t", "00", "2025-01-31", "--list", "t", "+1"], false),
+    ("with a minus",        &["check", "s", "t", "00", "2025-01-31", "--list", "t", "-1"], false),
+    ("with a space",        &["check", "s", "t", "00", "2025-01-31", "--list", "t", "1 "], false),
+    ("hexadecimal seconds", &["check", "s", "t", "00", "2025-01-31", "--list", "t", "1a"], false),
+    ("a date for seconds",  &["check", "s", "t", "00", "2025-01-31", "--list", "t", "2025-01-31"], false),
+    ("a list alone",        &["check", "s", "t", "00", "2025-01-31", "--list"], false),
+    ("without seconds",     &["check", "s", "t", "00", "2025-01-31", "--list", "t"], false),
+    ("seconds first",       &["check", "s", "t", "00", "2025-01-31", "--list", "0", "t"], false),
+    ("a list in one word",  &["check", "s", "t", "00", "2025-01-31", "--list=t", "0"], false),
+    ("two lists",           &["check", "s", "t", "00", "2025-01-31", "--list", "t", "0", "--list", "t", "0"], false),
+    ("a list like an option", &["check", "s", "t", "00", "2025-01-31", "--list", "--until", "0", "--until", "2025-02-01"], true),
+    ("a list between",      &["check", "s", "t", "00", "2025-01-31", "--no-after", "--list", "t", "0", "--no-before"], true),
+    ("a list of none",      &["basic", "s", "t", "00", "--list", "t", "0"], false),
     ("an option of none",   &["basic", "s", "t", "00", "--no-chain"], false),
 ];
 

@@ -10,3 +10,5 @@ mod elements;
 mod limits;
 #[cfg(test)]
 mod signature;
+#[cfg(test)]
+mod trust_lists;
