@@ -91,7 +91,7 @@ fn the_list_is_read_after_the_table(rt: HostRuntime) -> Result<(), FromHexError>
 /// Whether a check of a signature file with these words ends with a status and a line.
 fn answers(
     alloc: Global,
-    behind: &[&str],
+    behind: &[&'static str],
     signature: &[u8],
     table: &str,
     status: u8,
