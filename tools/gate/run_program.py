@@ -32,13 +32,14 @@ import struct
 import subprocess
 import sys
 import tempfile
+from base64 import b64encode
 from dataclasses import dataclass, field
 from hashlib import sha256
 from pathlib import Path
 
 sys.path.insert(0, str(Path(__file__).resolve().parents[1]))
 
-from cases import basic_steps, basic_world, check_parts, check_rows, list_rows
+from cases import basic_steps, basic_world, check_making, check_parts, check_rows, list_rows
 from cases import issuing_chains as issued
 from cases.first_path import FILE_HASH, signature_file, verdict_line
 from common import command
@@ -561,9 +562,21 @@ UNLISTED, UNREAD, CA_EXPIRED = refused("CAIsNotTrusted"), refused("FailedToParse
 LAST_SECOND = "9" * 18
 
 
+# Certificates that the key of R didn't sign.
+OF_R, OF_Q = (check_parts.s(serial=serial, issuer=issuer, by=check_parts.K_X) for serial, issuer in ((b"\x02", b"R"), (b"\x01", b"Q")))
+BY_ANOTHER_R = check_making.file(check_parts.S, check_parts.i(by=check_parts.K_X), check_parts.r(key=check_parts.K_X))
+
+
 def of_list(why, words, status, line="", l=LISTED, **others):
     """A row with these words behind HASH, and a list."""
     return of_check(f"a list: {why}", words, status, line, l=l, **others)
+
+
+def of_token(why, options, status, line, *texts, made=list_rows.EXCUSED_BY_TOKEN):
+    """A row on an expired signer that a token of the CA T, or a member of the bag, may excuse, with a list of these CAs."""
+    path = "" if "--no-chain" in options else "1"
+    said = line if status else f"{check_parts.accepted(0, path, line)}\n"
+    return of_list(f"an expired signer: {why}", (AFTER, *options, *LIST), status, said, list_rows.list_with(*texts), made=made)
 
 
 LIST_ROWS = [
@@ -577,7 +590,7 @@ LIST_ROWS = [
     of_list("18 zeros", (DAY, "--list", "l", "0" * 18), 0, WITH_PATH, ENDED),
     of_list("zeros in front", (DAY, "--list", "l", "1".zfill(18)), 1, CA_EXPIRED, ENDED),
     *(of_list(f"the seconds {word!r}", (DAY, "--list", "l", word), 2) for word in (
-        "", "9" * 19, "0" * 19, "+1", "-1", "-0", " 1", "1 ", "1.0", "0x1", "1e3", "1_000", "a", "\u0661", "--no-chain")),
+        "", "9" * 19, "0" * 19, "+1", "-1", "-0", " 1", "1 ", "1\n", "1.0", "0x1", "1e3", "1_000", "a", "\u0661", "--no-chain")),
     # words
     of_list("in front of all options", (AFTER, *LIST, *OPTIONS), 0, WITHOUT_PATH),
     of_list("behind all options", (AFTER, *OPTIONS, *LIST), 0, WITHOUT_PATH),
@@ -588,6 +601,8 @@ LIST_ROWS = [
     of_list("no seconds", (DAY, "--list", "l"), 2),
     of_list("a word too many", (DAY, *LIST, "1"), 2),
     of_list("in the place of the date", (*LIST, DAY), 2),
+    of_list("an empty name", (DAY, "--list", "", "1"), 4),
+    of_list("a name that isn't UTF-8", (DAY, "--list", b"l\xff", "1"), 2),
     *(of_list(f"the option {word!r}", (DAY, word, "l", "1"), 2) for word in ("--List", "--lists", "-list", "--list=l", "--ctl")),
     Row("check: a list: a name like an option", (*CHECK, DAY, "--list", "--no-chain", "1"), 0, WITH_PATH,
         {"s": CHECKED.octets, "t": CHECKED.table.encode("ascii"), "--no-chain": LISTED}),
@@ -604,8 +619,32 @@ LIST_ROWS = [
     of_list("not read, before an expired signer", (AFTER, *LIST), 1, UNREAD, EMPTY),
     of_list("a bad table before a list that isn't read", (DAY, *LIST), 3, l=EMPTY, t=BAD_TABLE),
     of_list("the links before the list", (AFTER, *LIST), 1, LATE, list_rows.EMPTY),
+    of_list("no content isn't asked of an expired signer", (AFTER, *LIST), 1, LATE, list_rows.signed(check_judge.TRUST_LIST)),
+    of_list("no content, and no signature", (DAY, *LIST), 1, refused("WrongLength"), list_rows.signed(check_judge.TRUST_LIST), s=b""),
+    # files that are no list, and what a list is found in
+    of_list("PEM", (DAY, *LIST), 1, UNREAD, b"-----BEGIN PKCS7-----\n" + b64encode(LISTED) + b"\n-----END PKCS7-----\n"),
+    of_list("behind a header", (DAY, *LIST), 1, UNREAD, header(8 + len(LISTED)) + LISTED),
+    of_list("the content alone", (DAY, *LIST), 1, UNREAD, bytes.fromhex(list_rows.trust_list(list_rows.entry_of(b"R")))),
+    of_list("an octet is missing", (DAY, *LIST), 1, UNREAD, LISTED[:-1]),
+    of_list("the signature file", (DAY, "--list", "s", "1"), 1, UNREAD),
+    of_list("the table", (DAY, "--list", "t", "1"), 1, UNREAD),
+    # a name on the list, and no key
+    of_list("a root of this name with another key", (DAY, *LIST), 0, WITH_PATH, made=BY_ANOTHER_R),
+    of_list("a signer alone whose issuer has this name", (DAY, *LIST), 0, WITHOUT_PATH, made=check_making.file(OF_R)),
+    of_list("another one of the signer's subject, whose issuer has this name", (DAY, *LIST), 0, accepted_at(1), made=check_making.file(OF_R, OF_Q, signer=OF_Q)),
+    # a token's CA
+    of_token("the token's CA and the signer's", (), 0, "token", b"T", b"R"),
+    of_token("the token's CA isn't on it", (), 1, UNLISTED, b"R"),
+    of_token("the signer's CA isn't on it", (), 1, UNLISTED, b"T"),
+    of_token("the token's CA isn't on it, no chain", ("--no-chain",), 1, UNLISTED, b"R"),
+    of_token("the token's CA isn't on it, no excuse needed", ("--no-after",), 0, "none", b"R"),
+    of_token("an excuse of the bag asks for the signer's CA alone", (), 0, "bag", b"R", made=list_rows.EXCUSED_BY_BAG),
     # files
     Row("check: no list", (*CHECK, DAY, *LIST), 4, files={"s": SIGNATURE, "t": TABLE}),
+    Row("check: no table, and a list of an octet more", (*CHECK, DAY, *LIST), 4, files={"s": SIGNATURE, "l": Zeros(LONGEST_FILE + 1)}),
+    Row("check: a table of an octet more, and no list", (*CHECK, DAY, *LIST), 6, files={"s": SIGNATURE, "t": Zeros(LONGEST_FILE + 1)}),
+    Row("check: the table and the list from one pipe, the table first", (*CHECK[:2], PIPE, HASH, DAY, "--list", PIPE, "1"), 1, UNREAD,
+        {"s": CHECKED.octets}, given=CHECKED.table.encode("ascii")),
     Row("check: no list, and a bad table", (*CHECK, DAY, *LIST), 4, files={"s": SIGNATURE, "t": BAD_TABLE}),
     Row("check: a folder for the list", (*CHECK, DAY, *LIST), 4, files={"s": SIGNATURE, "t": TABLE, "l": Folder()}),
     of_list("the longest one", (DAY, *LIST), 1, UNREAD, Zeros(LONGEST_FILE)),
