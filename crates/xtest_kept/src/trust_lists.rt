@@ -156,23 +156,23 @@ fn the_ca_is_on_the_list(rt: HostRuntime) -> Result<(), Fail> {
     Ok(())
 }
 
-/// Results on a list without entries: with another name excluded, then its own too, then a third,
-/// then none.
-fn outcomes_without(
+/// Whether on a list without entries the CA isn't trusted with another name excluded, and is with its
+/// own too and with a third, and not with none.
+fn names_add_up(
     alloc: Global,
     signature: &AuthenticodeSignature,
     list: &CertificateTrustList,
-) -> Result<[Outcome; 4], AllocError> {
+) -> Result<bool, AllocError> {
     let mut verifier = list_alone(alloc, signature, list, 1);
     verifier.exclude_cert_authorities(&[DirectoryName::new_common_name(alloc, "B")?])?;
-    let other = verified(alloc, &verifier);
+    let other = verified(alloc, &verifier) == Outcome::NotTrusted;
     verifier.exclude_cert_authorities(&[DirectoryName::new_common_name(alloc, "A")?])?;
-    let own = verified(alloc, &verifier);
+    let own = verified(alloc, &verifier) == Outcome::Listed;
     verifier.exclude_cert_authorities(&[DirectoryName::new_common_name(alloc, "C")?])?;
-    let third = verified(alloc, &verifier);
+    let third = verified(alloc, &verifier) == Outcome::Listed;
     let verifier = verifier.ignore_excluded_cert_authorities();
-    let none = verified(alloc, &verifier);
-    Ok([other, own, third, none])
+    let none = verified(alloc, &verifier) == Outcome::NotTrusted;
+    Ok(other && own && third && none)
 }
 
 fn are_excluded(alloc: Global, octets: &[u8], list: &[u8]) -> bool {
@@ -182,15 +182,7 @@ fn are_excluded(alloc: Global, octets: &[u8], list: &[u8]) -> bool {
     let Ok(list) = CertificateTrustList::from_der(alloc, list) else {
         return false;
     };
-    match outcomes_without(alloc, &signature, &list) {
-        Ok([other, own, third, none]) => {
-            other == Outcome::NotTrusted
-                && own == Outcome::Listed
-                && third == Outcome::Listed
-                && none == Outcome::NotTrusted
-        }
-        Err(_) => false,
-    }
+    names_add_up(alloc, &signature, &list).unwrap_or(false)
 }
 
 #[test]
