@@ -33,7 +33,7 @@ class NotSigned(Exception):
 
 
 def parts(program):
-    """Where the optional header begins, where in it the place of the table stands, and the table's place and length."""
+    """Where the optional header begins, where in it the table's offset is, and the table's offset and length."""
     try:
         header, = unpack_from("<I", program, 60)
         optional = header + 24

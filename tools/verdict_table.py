@@ -4,13 +4,13 @@
     python3 tools/verdict_table.py [--version-1] SIG > TABLE
     python3 tools/verdict_table.py [--version-1] --chain CERT .. > TABLE
 
-The two options stand in either order.
+The two options come in either order.
 
 SIG is a file with a WIN_CERTIFICATE.  Each line names one signature, in the form
 that docs/FORMATS.md gives for verdict tables of version 2:
 
   - that of the first signer over its attributes, by the key of its certificate;
-  - of each certificate that stands in the signed data, that of whoever's subject is
+  - of each certificate in the signed data, that by the certificate whose subject is
     its issuer, over its TBSCertificate;
   - of the certificates in the token of a timestamp, the same.
 
@@ -35,7 +35,7 @@ Where openssl can't say, as of a key that it doesn't read, the table has no line
 version 1 are the lines of signatures that openssl verifies, without a verdict.
 
 A signature that openssl doesn't verify or can't judge, or whose algorithm has no name
-in a table, has a line on standard error, one for all places where it stands.  Nothing
+in a table, has a line on standard error, one wherever it is found.  Nothing
 is said of whether a certificate may be believed: that is for who reads the table.
 Many certificates of one name ask for each by each: a file that asks for more than
 10,000 signatures has no table, and the status is 1.
@@ -233,7 +233,7 @@ def is_shortest(element):
     )
 
 
-# What stands in a file.
+# What is in a file.
 
 def content_info_in(octets):
     """The element in a WIN_CERTIFICATE, and how many octets it has."""
@@ -410,7 +410,7 @@ def table_of(all_asked, version=1):
             continue
         if verdict != "accept":
             lacking.append(f"{asked.what}: {'malformed' if verdict == 'malformed' else 'not accepted'} as {asked.name()}")
-        # A key may stand in two encodings, of which openssl reads one.
+        # A key may have two encodings, of which openssl reads one.
         if verdicts.get(line) != "accept":
             verdicts[line] = verdict
     if version == 1:

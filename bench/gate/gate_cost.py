@@ -1,5 +1,5 @@
 #!/usr/bin/env python3
-"""Tell what a check of the repository costs, crate by crate.
+"""Print what a check of the repository costs, crate by crate.
 
 Usage:
 

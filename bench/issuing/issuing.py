@@ -9,8 +9,8 @@ PROGRAM is the path of `xgolden_issuing`.  The script builds the three others fr
 `issuing.go` and `issuing.rs`, with Debian's packages libssl-dev, golang-go and librust-webpki-dev (and
 a Rust toolchain), and has openssl make a root, an authority and a certificate, each with a key of RSA
 of 2,048 bits.  No program does arithmetic: the one accepts and signs by a scheme that answers at once,
-in OpenSSL's the signatures are left out, and webpki stands on `issuing_ring.rs` in the place of ring,
-which accepts every signature.  Of Go the arithmetic can't be left out: it is measured apart, and told
+in OpenSSL's the signatures are left out, and webpki has `issuing_ring.rs` in the place of ring,
+which accepts every signature.  Of Go the arithmetic can't be left out: it is measured apart, and printed
 below the table.  Each job is done so many times, and the time that processors worked is counted; the programs run
 in turn, and a figure is the median of the rounds.
 
@@ -60,7 +60,7 @@ libc = "0.2"
 ring = {{ path = "ring" }}
 """
 
-# What stands in the place of ring, and hands on what webpki takes of it beside signatures.
+# What is in the place of ring, and hands on what webpki takes of it beside signatures.
 RING_CARGO = """\
 [package]
 name = "ring"

@@ -35,7 +35,7 @@ Each run must accept.  The status is 1 where a limit is passed, else 0.
 Time is that on the clock.  On a machine that is busy with other things it
 says little: `--processor` takes the time that processors worked instead.
 
-Resident memory is what the system tells when the command ends.  It counts
+Resident memory is what the system reports when the command ends.  It counts
 what the process had that started the command (`measure.py`, some 9 MiB), so
 nothing below that can be seen: the column then says `under`, and no limit is
 asked.

@@ -34,7 +34,7 @@ def accepted(place):
     return f"accepted signer={place} path= excuse=none\n".encode()
 
 
-# Long files. Each function makes signed data of about so many octets, and tells the signer's place.
+# Long files. Each function makes signed data of about so many octets, and returns the signer's place.
 
 def in_name(total):
     """The bulk in the subject of the signer's certificate."""

@@ -20,7 +20,7 @@ quarter of the time of the faster one of the other two programs.  These read the
 whole program and do the arithmetic, which `check` doesn't: it is what a check costs
 beside them.  Each run must accept.  The status is 1 where the limit is passed, else 0.
 
-Of time, `--processor`, and what the script takes, `basic.py` tells more.
+Of time, `--processor`, and what the script takes, `basic.py` says more.
 """
 
 import argparse

@@ -25,7 +25,7 @@ entry with many attributes.
   memory   the greatest resident memory is at most 2 times the list.
 
 Each run has to answer as it is known that it does.  The status is 1 where it doesn't or
-a limit is passed, else 0.  Of memory `basic.py` tells more.
+a limit is passed, else 0.  Of memory `basic.py` says more.
 """
 
 import argparse

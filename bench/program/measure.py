@@ -5,7 +5,7 @@
 A newline and a last line follow what the command prints: the seconds from
 start to end, the seconds that processors worked for it, the greatest resident
 memory in octets, and the status.  What
-the system tells of the memory of a command counts that of the process that
+the system reports of the memory of a command counts that of the process that
 started it, so this script imports next to nothing, and is started by
 `basic.py` for every run.
 """

@@ -6,7 +6,7 @@ Usage:
     python3 bench/program/strangers.py [--repetitions N] PROGRAM
 
 PROGRAM is the path of the executable.  Files are made of some 4 and 16 MiB, with
-tables that accept their signatures, and a row tells what a run took, the median of
+tables that accept their signatures, and a row says what a run took, the median of
 the repetitions: the seconds that processors worked, and the memory that was resident.
 
   - `links`: a signer, and the certificate of its authority, a root, over and over.  It

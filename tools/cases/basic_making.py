@@ -173,7 +173,7 @@ class Signed:
         return sequence(identifier(SIGNED_DATA), context(0, signed_data))
 
     def file(self):
-        """A WIN_CERTIFICATE of revision 2.0, its length counting what stands behind the value."""
+        """A WIN_CERTIFICATE of revision 2.0, its length counting what is behind the value."""
         value = self.value() + self.behind
         return (8 + len(value)).to_bytes(4, "little") + b"\x00\x02" + self.kind.to_bytes(2, "little") + value
 

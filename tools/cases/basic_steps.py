@@ -1,6 +1,6 @@
 """A row for every refusal of the steps that `basic_judge` lists, and rows with several faults, the first of which is answered.
 
-What is answered stands in each row, found by hand from the steps.
+Each row has its answer, found by hand from the steps.
 """
 
 from hashlib import sha256
@@ -310,7 +310,7 @@ IN_ORDER = [
 
 
 def fit(one, other):
-    """Whether both faults can stand in one file."""
+    """Whether one file can have both faults."""
     return not (one[0].keys() & other[0].keys() or one[2] & other[0].keys() or one[2] and other[2])
 
 

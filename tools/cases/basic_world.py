@@ -10,8 +10,8 @@ The first prints `tools/cases/world_tables.txt` anew: for each signature its lab
 rows of the table that `verdict_table` has openssl find for it, bars between.  The
 second compares that file with what openssl finds.
 
-A file is asked for the digest that stands in it.  `CHANGES` lists the octets that
-are changed, one at a time, where they stand; of the file EVERY each octet is.
+A file is asked for the digest in it.  `CHANGES` lists the octets that
+are changed, one at a time; of the file EVERY each octet is.
 """
 
 import sys

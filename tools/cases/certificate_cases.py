@@ -1,6 +1,6 @@
 """Subject names and keys for certificates that openssl makes.
 
-A name stands in one of four tables, by what can make it: `openssl req`,
+A name is in one of four tables, by what can make it: `openssl req`,
 `openssl x509` for a key that can't sign, `openssl asn1parse -genconf`, or
 none of these.
 """

@@ -1,6 +1,6 @@
 """Signature files under policies, for `xgolden_check`: the worked rows, and a row for each refusal for the signer's certificate and its chain.
 
-What is answered stands in each row, found by hand from the steps that `check_judge`
+Each row has its answer, found by hand from the steps that `check_judge`
 lists.  Rows with two faults are answered by the first.  Those of the steps before
 are in `basic_steps`, those of excuses in `excuse_rows`, those of trust lists in
 `list_rows`.
@@ -278,7 +278,7 @@ LINKS = [
     Row("two constraints, the first of an authority", file(S, i(ca=None, extensions=(constraints(True, None), constraints(False, None)))), IN, accepted(0, "1")),
     Row("two constraints, the second of an authority", file(S, i(ca=None, extensions=(constraints(False, None), constraints(True, None)))), IN, no_authority("I")),
     Row("a flag of 01", file(S, i(ca=None, extensions=(extension("2.5.29.19", sequence(element(0x01, b"\x01"))),))), IN, accepted(0, "1")),
-    # path lengths: so many stand between
+    # path lengths: so many are between
     Row("length 0 of the first", file(S, i(length=0)), IN, accepted(0, "1")),
     Row("length 0 of the second", file(S, I, r(length=0)), IN, too_deep("R", 0)),
     Row("length 1 of the second", file(S, I, r(length=1)), IN, accepted(0, "1,2")),

@@ -1,6 +1,6 @@
 """Signature files of expired signers, for `check_rows`: each excuse and each rule of it, alone and with each other one, and each link of the issuer path.
 
-What is answered stands in each row or in the table that rows are made of, found
+Each row, or the table that rows are made of, has the answer, found
 by hand from the steps that `check_judge` lists.
 """
 
@@ -337,7 +337,7 @@ def in_order():
 
 
 def before_all_behind():
-    """Each fault with all behind it that can stand beside it."""
+    """Each fault with all behind it that can occur beside it."""
     known = list(in_order())
     for place, (why, first) in enumerate(known):
         changes = dict(first.changes)

@@ -186,7 +186,7 @@ LEVELS = [
 ROWS = KEYS + LENGTHS + NUMBERS_OF_FIELDS + LISTS + WRONG + VALUES + LEVELS
 
 
-# Long ones: what stands in front, what is repeated, how often, and what stands behind.
+# Long ones: what is in front, what is repeated, how often, and what is behind.
 
 def split(octets, part, times):
     """The octets around a part that is repeated."""

@@ -245,7 +245,7 @@ LEVELS = [
         "63 levels, then 64, inside one parent"),
 ]
 
-# What a cursor tells of several elements, one after another.
+# What a cursor returns of several elements, one after another.
 SEVERAL = [
     Row("02 01 05 04 00 30 80", "ok 3", "Trailing 3", "two elements, then an indefinite length",
         "3 2 Indefinite 5"),
@@ -263,7 +263,7 @@ SEVERAL = [
         "2 TooDeep 131"),
 ]
 
-# Rows that stand beside the tables.
+# Rows beside the tables.
 OTHERS = [
     Row("3F", "HighTag 0", "HighTag 0", "high tag, constructed, before the missing length"),
     Row("04", "Truncated 0", "Truncated 0", "an identifier alone, of an OCTET STRING"),

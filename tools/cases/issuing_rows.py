@@ -195,7 +195,7 @@ ISSUED_FAULTS = ["valid_from", "issuer_infos", "authority_key_identifier", "subj
 
 
 def faulty(order, faults):
-    """The scheme, the key and the settings with these faults, None where they can't stand together."""
+    """The scheme, the key and the settings with these faults, None where they can't occur together."""
     own = order is OWN_FAULTS
     if {"deep tbs", "deep certificate"} <= set(faults) or {"subject_infos", "bad request"} <= set(faults) or {"no half", "unsigned"} <= set(faults):
         return None
@@ -334,7 +334,7 @@ REQUEST_FAULTS = ["no half", "deep info", "unsigned", "deep request"]
 
 
 def faulty_request(faults):
-    """The case with these faults, None where they can't stand together."""
+    """The case with these faults, None where they can't occur together."""
     if {"deep info", "deep request"} <= set(faults):
         return None
     levels = 64 if "deep info" in faults else 63 if "deep request" in faults else None

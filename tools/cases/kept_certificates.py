@@ -34,7 +34,7 @@ from judges.value_reader import (
 
 STORED = folders.CASES / "kept_certificates.txt"
 
-# What is told of octets that are no certificate.
+# What is reported of octets that are no certificate.
 UNREAD = "(ASN1) couldn't deserialize x509 certificate: "
 SHAPE = "the element has another structure than the one that is read"
 UNWRITTEN = "(ASN1) couldn't serialize x509 certificate: "
@@ -110,7 +110,7 @@ def asked(extensions, oid, printed, called):
 
 
 def refusal(octets):
-    """What is told of octets that are no certificate, None of those that are one."""
+    """What is reported of octets that are no certificate, None of those that are one."""
     try:
         certificate(read_exact(octets))
     except Malformed as malformed:

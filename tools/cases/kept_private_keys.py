@@ -6,9 +6,9 @@ Usage:
     python3 tools/cases/kept_private_keys.py --check
 
 has openssl (3.0 or later) write the public key of each key of RSA and of each
-point in `private_key_rows.txt`, and tells where the one of a line here is
-another; and has it read what is written of each key there, and tells where
-that key is another.
+point in `private_key_rows.txt`, and prints where it differs from that of a line
+here; and has it read what is written of each key there, and prints where that
+key is another.
 
 The rows of `xgolden_structure` on private keys and their lines, beside those of
 `xgolden_value`.  A line has the kind, the octets in PKCS #8, whether a copy is
@@ -229,7 +229,7 @@ def made_rows():
 
 
 def made_ed_row(oid, secret, public):
-    """A given public key stands beside the secret, and the version is 1 (RFC 5958 2)."""
+    """A given public key is beside the secret, and the version is 1 (RFC 5958 2)."""
     algorithm = sequence(Primitive(6, oid))
     beside = () if public is None else (Primitive(0x81, b"\0" + public),)
     version = b"\0" if public is None else b"\1"

@@ -1,6 +1,6 @@
 """Signature files under policies with trust lists, for `check_rows`: the CA of a signer and that of a token, and each outcome of a list.
 
-What is answered stands in each row or in the tables that rows are made of, found
+Each row, or the tables that rows are made of, has the answer, found
 by hand from the steps that `check_judge` lists.
 """
 

@@ -9,10 +9,10 @@ prints in hexadecimal digits the file of `crates/xtest_kept/src/making.rt`, and
 behind it that of `crates/xtest_usage/src/signing.rt`.
 
 The form is that of RFC 2315 9.1 and 9.2 and of Windows Authenticode Portable
-Executable Signature Format, as docs/FORMATS.md tells it.  Certificates are made
+Executable Signature Format, as docs/FORMATS.md has it.  Certificates are made
 by `issuing_maker`, signatures of the demonstration scheme by its rules.  The
 rows of `MADE` and `BUILT` are those of `xgolden_kept` on signatures that are
-made; which certificates are carried, and why a signature isn't made, stands
+made; which certificates are carried, and why a signature isn't made, is
 beside each.
 """
 
@@ -166,7 +166,7 @@ class Program:
 
 
 def file_of(value, behind=b""):
-    """A WIN_CERTIFICATE of revision 2.0 and type 2, its length counting what stands behind the value."""
+    """A WIN_CERTIFICATE of revision 2.0 and type 2, its length counting what is behind the value."""
     return (8 + len(value + behind)).to_bytes(4, "little") + b"\x00\x02\x02\x00" + value + behind
 
 

@@ -21,7 +21,7 @@ EVERY = "program, RSA, sha1"
 
 
 def written():
-    """Labels and signature files, each with its table and the digest that stands in it."""
+    """Labels and signature files, each with its table and the digest in it."""
     known = basic_world.tables()
     for label, kind, octets in world_signatures.stored():
         if kind == "pkcs7":

@@ -809,7 +809,7 @@ MADE_NAMES = [
     [(text, "x") for _, text, _ in ATTRIBUTE_TYPES],
 ]
 
-# Extensions; those of openssl stand in certificates that `openssl req -x509 -addext` makes.
+# Extensions; those of openssl are in certificates that `openssl req -x509 -addext` makes.
 EXTENSIONS = [
     ("300c0603551d1304053003010100", "basic constraints, the flag given as FALSE"),
     ("30120603551d130101ff040830060101ff020100", "openssl: critical basic constraints with path length 0"),

@@ -305,7 +305,7 @@ def listed(names):
 
 
 def calls_text(crate):
-    """What stands between the marks."""
+    """What is between the marks."""
     tables, traits = calls_and_traits(crate)
     lines = [HEAD, ""]
     if tables:

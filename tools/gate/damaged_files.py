@@ -116,7 +116,7 @@ def restructured(chance, der):
 
 
 def heads(octets, begin, end):
-    """Where the tags of elements stand, as far as the lengths behind them are of one to three octets."""
+    """Where the tags of elements are, as far as the lengths behind them are of one to three octets."""
     while begin + 2 <= end:
         more = octets[begin + 1] & 0x7F if octets[begin + 1] > 0x80 else 0
         if more > 2 or octets[begin + 1] == 0x80:

@@ -11,7 +11,7 @@ is refused.  Each such run has to end with status 7 and print nothing, or to
 answer as the first one did.  It prints a line for each row, and its exit
 status is 1 where a run answers something else.
 
-What refuses memory is a library in C that stands between the program and the
+What refuses memory is a library in C between the program and the
 system's `malloc` and `realloc`; it is compiled by `cc`, as system libraries for
 Linux are.
 """

@@ -11,7 +11,7 @@ the octets on standard output and standard error, which must stay empty.
 
 The contracts of `picky_check` speak of shelves and sinks, and stop where
 the system begins: at the words of the command line, the paths of files,
-standard output, and the status that the system is told.  These rows are for
+standard output, and the exit status.  These rows are for
 that part, each status from 0 to 6 among them.
 
 The files of `basic` come from `first_path.py`, which shares nothing with a
@@ -22,7 +22,7 @@ docs/MANUAL.md and of refusals in docs/FORMATS.md.  The certificates of
 `chain` are those of `chains.py`, which openssl made, and the answers to them
 are those of the reader in `chain_reader.py`, and those of
 `issuing_chains.py`, with answers by hand.  The files of `check` are those of
-`check_rows.py` and `list_rows.py`, whose answers stand there, and programs that
+`check_rows.py` and `list_rows.py`, which have their answers, and programs that
 osslsigncode signed (`signed_programs.py`), whose answers are those of `check_judge.py`.
 Exit status 1 says that a row differs.
 """

@@ -60,7 +60,7 @@ class Function:
         return f"{self.crate}: {self.type + '::' if self.type else ''}{self.name}"
 
     def parameters(self):
-        """What stands in the parentheses behind the name."""
+        """What is in the parentheses behind the name."""
         start, depth = self.text.index("("), 0
         for at in range(start, len(self.text)):
             depth += {"(": 1, ")": -1}.get(self.text[at], 0)

@@ -9,7 +9,7 @@ PROGRAM is the executable of the crate `xgolden_basic`.  The files are those of
 `xgolden_basic.py` in which elements are left out, repeated, exchanged, put
 elsewhere or changed in an octet, one to three times.  The table accepts the
 signature of whatever signer and certificate the judge finds there, so that the
-steps behind the signature are reached, and mostly the digest that stands in the
+steps behind the signature are reached, and mostly the digest that is in the
 content is asked for.  Exit status 1 says that an answer differs.
 """
 

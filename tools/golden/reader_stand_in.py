@@ -4,7 +4,7 @@
     python3 tools/golden/reader_stand_in.py cases FILE
     python3 tools/golden/reader_stand_in.py digests PREFIX COUNT
 
-It stands in for a program under test when the comparison itself is tested.
+It replaces the program under test when the comparison itself is tested.
 It reads each input by itself and shares no shortcut with the comparison.
 """
 

@@ -8,13 +8,13 @@ Usage:
 writes FOLDER/data/cases.txt and FOLDER/stdout, what is answered to the cases.
 A case is a line of words in hexadecimal digits, `-` for none: a signature file,
 the digest that is asked for, the text of a table, and any number of changes.  A
-change is a place in two octets and the octet that stands there instead, and each
+change is a place in two octets and the octet that comes there instead, and each
 is made of the file alone: so a case is answered by a line for the file as it is,
 and one for each change.
 
 The cases are the rows of `basic_rows` and `basic_steps`, and those of
-`made_signatures` on signatures that are made, whose answers stand there, and the signatures of `basic_world`, whose answers `basic_judge` finds.
-What it finds of the rows has to be what stands there, and nothing is taken from
+`made_signatures` on signatures that are made, which have their answers, and the signatures of `basic_world`, whose answers `basic_judge` finds.
+What it finds of the rows has to be their answers, and nothing is taken from
 what the program printed.
 """
 

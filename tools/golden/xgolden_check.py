@@ -9,9 +9,9 @@ writes FOLDER/data/cases.txt and FOLDER/stdout, what is answered to the cases.
 A case is a line of words: a signature file, a table, and what is asked of the file,
 any number of times, in the form that `xgolden_check` names.
 
-The rows are those of `check_rows`, whose answers stand there, and the signatures
+The rows are those of `check_rows`, which have their answers, and the signatures
 of `real_policies`, whose answers `check_judge` finds.  What it finds of the rows has
-to be what stands there, and nothing is taken from what the program printed.
+to be their answers, and nothing is taken from what the program printed.
 """
 
 import sys
@@ -45,7 +45,7 @@ def list_words(policy):
 
 
 def asked_word(policy, change=None):
-    """What is asked in one word; a change is a place and the octet that stands there instead."""
+    """What is asked in one word; a change is a place and the octet that comes there instead."""
     flags = "".join(letter for name, letter in LETTERS.items() if getattr(policy, name))
     octets = change[0].to_bytes(2, "big") + bytes([change[1]]) if change else b""
     hash_word = "-" if policy.file_hash is None else policy.file_hash.hex()

@@ -7,11 +7,11 @@ Usage:
 
 writes FOLDER/data/rows, signed data in hexadecimal digits, and FOLDER/stdout,
 what is answered to them.  The rows are those of `xgolden_path` and those of
-`CASES` below, and so is the front of each answer; behind it stand the digest
+`CASES` below, and so is the front of each answer; behind it are the digest
 of the file, where the content is indirect data, and how many signed and how
 many unsigned attributes the first signer has, `-` where there is no signer.  They
 are found with the readers of `der_reader` and `cms_reader`; those of `CASES`
-have to be what stands there.
+have to be the answers there.
 
 A row of `STAMPS` has two words, signed data and a token.  What is answered is
 the signed data stamped by the token, put together of its elements (RFC 5652

@@ -8,10 +8,10 @@ Usage:
 writes FOLDER/data/rows, signed data in hexadecimal digits, and FOLDER/stdout,
 what is answered to them: the number of certificates, the place of the
 signer's, and the places of the issuer walk, those with the signer's subject in
-parentheses.  The first rows are those of `CASES`, whose answers stand there;
+parentheses.  The first rows are those of `CASES`, which have their answers;
 the others are the signatures of `world_signatures`, whose answers are found
 by the definitions, with the readers of `der_reader`, `cms_reader` and
-`value_reader`.  What these find of the first rows has to be what stands there.
+`value_reader`.  What these find of the first rows has to be their answers.
 """
 
 import sys

@@ -9,7 +9,7 @@ Usage:
 `--make` prints `tools/cases/certificate_rows.txt` anew: it has openssl (3.0 or later) make keys and
 certificates for the rows of `certificate_cases` and takes their parts out.
 The keys are fresh each time.  `--check` has openssl read each name and key of
-that file again, and tells what differs from its row.  Rows are
+that file again, and prints what differs from its row.  Rows are
 
     name|label|Name|printed text, in hexadecimal of DER and of UTF-8
     key|label|rsa|SubjectPublicKeyInfo|modulus|exponent
@@ -76,7 +76,7 @@ class Element(NamedTuple):
 
 
 def elements(octets):
-    """The elements of DER that stand one after another in octets."""
+    """The elements of DER that follow one another in octets."""
     place = 0
     while place < len(octets):
         begin, size = place + 2, octets[place + 1]

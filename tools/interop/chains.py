@@ -84,7 +84,7 @@ KINDS = {
     # Ed25519
     "edwards": Kind("Edwards", "edwards", ED25519, CA + OWN_IDENTIFIER),
     "by edwards": Kind("End", "edwards", P256, END + IDENTIFIERS),
-    # path lengths: none may stand between the root and the end
+    # path lengths: none may be between the root and the end
     "short": Kind("Short", "short", P256, limited(0) + OWN_IDENTIFIER),
     "below short": Kind("Below", "short", P256, CA + IDENTIFIERS),
     "by short": Kind("End", "short", P256, END + IDENTIFIERS),

@@ -173,7 +173,7 @@ def purposes_check(asked, said):
         same(f"one {title}", 1, len(re.findall(rf"{title}:", said)))
 
 
-# ---- extensions, by the places that `openssl asn1parse` tells
+# ---- extensions, by the places that `openssl asn1parse` prints
 
 BASIC_CONSTRAINTS, KEY_USAGE, PURPOSES, SUBJECT_NAMES, ISSUER_NAMES, OWN_KEY, AUTHORITY_KEY = (f"551d{arc:02x}" for arc in (19, 15, 37, 17, 18, 14, 35))
 ASKED_EXTENSIONS = "2a864886f70d01090e"
@@ -181,7 +181,7 @@ ASKED_EXTENSIONS = "2a864886f70d01090e"
 
 @dataclass(frozen=True)
 class Part:
-    """An element: how deep it stands, its tag as openssl calls it, its octets and its contents."""
+    """An element: its depth, its tag as openssl calls it, its octets and its contents."""
 
     depth: int
     tag: str
@@ -197,7 +197,7 @@ def parts(octets):
 
 
 def extensions_below(found, at):
-    """The identifier, the critical flag and what is held of each extension in the list that stands there."""
+    """The identifier, the critical flag and what is held of each extension in the list at that place."""
     depth, fields = found[at].depth, []
     for part in found[at + 1:]:
         if part.depth <= depth:

@@ -272,7 +272,7 @@ def listed():
 
 
 def stands_in(lines, file):
-    """Whether the words of the lines stand in the file, wherever it breaks them."""
+    """Whether the words of the lines are in the file, wherever it breaks them."""
     text = (CRATE / file).read_text(encoding="utf-8")
     return " ".join(" ".join(lines).split()) in " ".join(text.split())
 

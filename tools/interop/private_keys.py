@@ -14,7 +14,7 @@ used for nothing.  Rows are
     ec_private_key|label|element
 
 in hexadecimal.  `--check` has openssl print each key of that file again, and
-tells where its numbers are others than those of `value_reader`; a whole key it
+prints where its numbers differ from those of `value_reader`; a whole key it
 has to write as it was read.
 """
 

@@ -2,7 +2,7 @@
 
 For `world_signatures.py --check`.  `openssl pkcs7 -print` reads a content of any
 type, `openssl cms -cmsout -print` a signer named by a key's identifier; the lines of
-both are told by how far they stand in.
+both are known by their indentation.
 """
 
 import re
@@ -20,7 +20,7 @@ COUNTERS = {"1.2.840.113549.1.9.6": "signers", "1.3.6.1.4.1.311.3.3.1": "tokens"
 
 
 def sections(lines, indent, names):
-    """The lines below each name that stands so far in."""
+    """The lines below each name that is indented so far."""
     found, name = {}, None
     for line in lines:
         match = re.match(rf" {{{indent}}}([\w.]+):(.*)$", line)

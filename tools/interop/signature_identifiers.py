@@ -5,8 +5,8 @@ Usage:
 
     python3 tools/interop/signature_identifiers.py --check
 
-has openssl (3.0 or later) sign a certificate by each algorithm, and tells where
-the AlgorithmIdentifier that stands in it is another than that of
+has openssl (3.0 or later) sign a certificate by each algorithm, and prints where
+the AlgorithmIdentifier in it differs from that of
 `signature_rows.py`.
 """
 

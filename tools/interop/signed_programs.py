@@ -10,7 +10,7 @@ Usage:
 
 The first prints `tools/cases/signed_programs.txt` anew: openssl (3.0 or later) makes the
 certificates of `KINDS`, and osslsigncode (2.6 or later) signs a program with each
-set of words in `PROGRAMS`; the stamps are its own, at the time that is told, or those
+set of words in `PROGRAMS`; the stamps are its own, at a given time, or those
 of a server here that asks `openssl ts`, at the time when it is run.  A row is a
 label, the signed program in base64, and the rows of the table that `verdict_table`
 has openssl find for its signature, bars between; the first row is the root.
@@ -73,7 +73,7 @@ KINDS = {
     "by other": Kind("Authority", "other", RSA, limited(0) + IDENTIFIERS),
     "publisher by other": Kind("Publisher", "by other", RSA, CODE, FROM, TO),
 }
-# What stands in files of several certificates.
+# What is in files of several certificates.
 LISTS = {
     "above": ("authority", "root"),
     "above other": ("by other", "root"),

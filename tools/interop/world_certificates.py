@@ -243,7 +243,7 @@ ISSUER_ID, SUBJECT_ID = context_primitive(1, b"\0\xaa"), context_primitive(2, b"
 
 ED_KEY = sequence(ED, bit_string(bytes(range(32))))
 
-# The label, the version, the key, and what stands behind it.
+# The label, the version, the key, and what comes behind it.
 PUT_TOGETHER = [
     ("version 3, no extensions", 3, ED_KEY, b""),
     ("version 2, both unique identifiers", 2, ED_KEY, ISSUER_ID + SUBJECT_ID),

@@ -127,7 +127,7 @@ def expect_signed(parent, child, rows):
 
 
 def expect_link(parent, child, number, date, rows):
-    """The rules of one parent, in their order: `number` certificates stand between it and the first."""
+    """The rules of one parent, in their order: `number` certificates are between it and the first."""
     if not parent.limits.ca:
         raise Refused("InvalidChain:IssuerIsNotCA")
     if parent.limits.length is not None and parent.limits.length < number:

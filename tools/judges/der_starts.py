@@ -127,11 +127,11 @@ def contents_of(octets, place):
 # Whole elements, found by writing them.
 
 def encoding_at(octets, start):
-    """How many octets the element takes whose encoding stands at a start.
+    """How many octets the element takes whose encoding is at a start.
 
     None where there is no such element.  An encoding can be of one element
     only, so one guess is enough; the guess asks for no test, and counts only
-    where writing it gives the octets that stand there.
+    where writing it gives the octets there.
     """
     there = octets[start.place:start.bound]
     try:

@@ -10,7 +10,7 @@ from judges.issuing_maker import CALLED, Refused, key_in, request_verdict
 from judges.value_reader import basic_constraints, dotted, name_text, request, unread
 
 
-# What is told of two certificates that name one another otherwise, and what it is called.
+# What is reported of two certificates that name one another otherwise, and what it is called.
 UNLIKE = {
     "extension not found: ": "ExtensionNotFound",
     "authority key id doesn't match": "InvalidChain:AuthorityKeyIdMismatch",

@@ -292,7 +292,7 @@ def whole(element, refused):
 # ---- requests
 
 def request_verdict(octets, scheme):
-    """What is told of the signature of a request under its own key: first of its algorithm."""
+    """What is reported of the signature of a request under its own key: first of its algorithm."""
     info, algorithm, signature = read_exact(octets).kids
     if algorithm.kids[0] not in CALLED:
         return f"signature error: unsupported algorithm: {dotted(algorithm.kids[0].contents)}"

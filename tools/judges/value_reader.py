@@ -525,7 +525,7 @@ def said(extensions):
 
 
 def view_line(octets):
-    """What is printed of a certificate where it lies: each field as it stands, and what extensions say."""
+    """What is printed of a certificate where it lies: each field as it is, and what extensions say."""
     element = read_exact(octets)
     try:
         certificate(element)
