@@ -1,12 +1,12 @@
 -- Octets begin with an element or have a fault, which can be decided.
-use Rattle.std.proofs.Common.{◌≡◌, ℕ, zero, suc, ◌+◌, ◌-◌, ◌≤◌, List, [], ◌∷◌, ◌++◌, length, Result, Ok, Err, refl, ap, subst, ◌∙◌, arith, inl, inr, ◌⊎◌}
+use Rattle.std.proofs.Common.{◌≡◌, ℕ, zero, suc, ◌+◌, ◌-◌, ◌≤◌, List, [], ◌∷◌, ◌++◌, length, Result, Ok, Err, refl, sym, ap, subst, ◌∙◌, append-nil, arith, inl, inr, ◌⊎◌}
 use Rattle.std.proofs.lemmas.Bool.{cases_eq}
 use Rattle.std.proofs.lemmas.List.{length-append}
 use Rattle.der_core.specs.declared.fault.DerFault.{DerFault}
-use Rattle.der_core.specs.DerElement.{Primitive, Constructed, Nil, Cons}
-use Rattle.der_core.specs.Encoding.{length_octets, encoding, form_bit, framed}
+use Rattle.der_core.specs.DerElement.{DerElement, Primitive, Constructed, Nil, Cons}
+use Rattle.der_core.specs.Encoding.{length_octets, encoding, form_bit, framed, IsDer}
 use Rattle.der_core.specs.Fault.{header_length, IsFirstFault}
-use Rattle.der_core.specs.Facts.Fronts.{some_octets}
+use Rattle.der_core.specs.Facts.Fronts.{some_octets, fronts}
 use Rattle.der_core.specs.Head.{IsOctets, head_at, HasHead}
 use Rattle.der_core.specs.Facts.InnerFault.{ElementFault, KidsFault, Here, Inside, First, Next}
 use Rattle.der_core.specs.Reading.{AreDerWithin, HasElementsWithin, HasNoFirst}
@@ -14,7 +14,7 @@ use Rattle.der_core.proofs.Begins.{HasElement}
 use Rattle.der_core.proofs.Lengths.{IsOctets-front}
 use Rattle.der_core.proofs.Heads.{head_taken}
 use Rattle.der_core.proofs.Elements.{leaf_read, branch_read, first_read}
-use Rattle.der_core.proofs.Faults.{first_fault}
+use Rattle.der_core.proofs.Faults.{first_fault, no_element}
 
 -- a fault somewhere
 abbrev SomeFault : ℕ → List ℕ → Type 0
@@ -78,3 +78,22 @@ fault_found octets fits none =
       | inl has ↦ absurd (none has.0 (length octets - length has.1) (first_read octets has.1 has.0 has.2 has.3))
       | inr fault ↦ (fault.0, fault.1, first_fault octets fault.0 fault.1 fault.2)
     ]
+
+-- octets are the encoding of an element, all of them, or of none
+pub whole_or_not : (octets : List ℕ) → IsOctets octets
+    → ((element : DerElement) × IsDer element × (octets ≡ encoding element)) ⊎ ((element : DerElement) → IsDer element → octets ≡ encoding element → ⊥)
+whole_or_not octets fits =
+    elim (decided 64 octets fits) [
+      | inl has ↦ ends has.0 has.1 has.2 has.3
+      | inr fault ↦ inr (λ a der is. no_element fault.2 (a, [], der, is ∙ sym (append-nil (encoding a))))
+    ]
+  where
+    not_empty : (octet : ℕ) (rest : List ℕ) → octet ∷ rest ≡ [] → ⊥
+    not_empty octet rest e = cc
+
+    ends : (element : DerElement) (rest : List ℕ) → IsDer element → octets ≡ encoding element ++ rest
+        → ((a : DerElement) × IsDer a × (octets ≡ encoding a)) ⊎ ((a : DerElement) → IsDer a → octets ≡ encoding a → ⊥)
+    ends element [] der parts = inl (element, der, parts ∙ append-nil (encoding element))
+    ends element (octet ∷ rest) der parts = inr (λ a der' is.
+        let same = fronts element a (octet ∷ rest) [] der.formed der'.formed der.short der'.short (sym parts ∙ is ∙ sym (append-nil (encoding a))) in
+        not_empty octet rest same.1)

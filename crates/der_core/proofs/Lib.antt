@@ -5,6 +5,7 @@ pub mod Elements
 pub mod Faults
 pub mod Exact
 pub mod Decided
+pub mod DecidedValues
 pub mod Nesting
 pub mod Siblings
 pub mod Refusals
