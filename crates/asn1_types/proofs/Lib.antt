@@ -1,6 +1,7 @@
 pub mod Numbers
 pub mod Subidentifiers
 pub mod Identifiers
+pub mod DecidedValues
 pub mod Times
 pub mod Decimals
 pub mod Dotted
