@@ -42,7 +42,7 @@ lent_string whole tag content element is string =
 pub no_string : (whole : List ℕ) (tag : ℕ) (content : List ℕ) (element : DerElement) → IsElem whole tag content element → (IsStringTag tag → ⊥) → (string : DirectoryString) → element ≡ directory_string string → ⊥
 no_string whole tag content element is none string e = none (subst IsStringTag (sym (is.2 ∙ ap tag_of e)) (is_string_tag string))
 
-string_or_not : (tag : ℕ) → IsStringTag tag ⊎ (IsStringTag tag → ⊥)
+pub string_or_not : (tag : ℕ) → IsStringTag tag ⊎ (IsStringTag tag → ⊥)
 string_or_not tag =
     elim (cases_eq tag 0x0C) [
       | inl a ↦ inl (inl (inl (inl a)))
@@ -61,7 +61,7 @@ string_or_not tag =
     none_of a b c d (inl (inr e)) = c e
     none_of a b c d (inr e) = d e
 
-ia5_or_not : (text : List ℕ) → IsIa5 text ⊎ (IsIa5 text → ⊥)
+pub ia5_or_not : (text : List ℕ) → IsIa5 text ⊎ (IsIa5 text → ⊥)
 ia5_or_not [] = inl (λ k d below. absurd (omega (arith, below)))
 ia5_or_not (octet ∷ text) =
     elim (cases_lt octet 128) [

@@ -5,3 +5,4 @@ pub mod TypeDescriptors
 pub mod Equal
 pub mod Elements
 pub mod Parties
+pub mod DecidedNames
