@@ -1,6 +1,7 @@
 -- The values of extensions by their kinds.
-use Rattle.std.proofs.Common.{◌≡◌, ◌⊎◌, inl, inr, ℕ, List, Bool, true, false, IsTrue, Option, Some, None, MatchOption, refl, sym, subst}
+use Rattle.std.proofs.Common.{◌≡◌, ◌⊎◌, inl, inr, ℕ, List, Option, Some, None, MatchOption, refl, sym, subst}
 use Rattle.der_core.specs.DerElement.{DerElement}
+use Rattle.der_core.specs.Head.{IsOctets}
 use Rattle.der_core.specs.Structure.{IsWithin, FitsWithin}
 use Rattle.der_core.specs.Refusals.{RefusesShape}
 use Rattle.der_core.specs.declared.error.DerError.{DerError}
@@ -15,6 +16,7 @@ use Rattle.extension_types.specs.declared.authority_key_identifier.AuthorityKeyI
 use Rattle.extension_types.specs.declared.extended_key_usage.ExtendedKeyUsage.{ExtendedKeyUsage}
 use Rattle.name_types.specs.GeneralName.{AreGeneralNames}
 use Rattle.name_types.specs.declared.general_name.RawGeneralName.{RawGeneralName}
+use Rattle.name_types.proofs.DecidedNames.{names_or_not}
 use Rattle.x509_types.specs.ExtensionView.{key_identifier, HoldsNoNames, MayBeKept, IsValueOf}
 use Rattle.x509_types.specs.Facts.ExtensionViews.{HoldsOf, holds_of}
 use Rattle.x509_types.specs.declared.extension.kind.ExtensionKind.{ExtensionKind}
@@ -56,26 +58,24 @@ pub extended_usage_of : (kind : ExtensionKind) (octets : List ℕ) (view : Exten
     (λ (element : DerElement) (u : ExtendedKeyUsage). element ≡ extended_key_usage u) octets value
 extended_usage_of kind octets view is of = let h = held kind kinds.ExtendedKeyUsage octets view is of in (h.0, h.2)
 
-subject_names : (kind : ExtensionKind) (octets : List ℕ) (names : Bool)
-    → kinds.SubjectAltName ≡ kind → (IsTrue names → FitsWithin AreGeneralNames octets)
-    → (names ≡ false → HoldsNoNames octets)
+subject_names : (kind : ExtensionKind) (octets : List ℕ) → kinds.SubjectAltName ≡ kind
+    → FitsWithin AreGeneralNames octets ⊎ HoldsNoNames octets
     → (view : ExtensionView) × IsValueOf kind octets view
-subject_names kind octets true is fits unfit = let fit = fits refl in (views.SubjectAltName fit.0, (is, fit.1))
-subject_names kind octets false is fits unfit = (views.Raw octets, (subst (λ (k : ExtensionKind). MayBeKept k octets) is (unfit refl), refl))
+subject_names kind octets is (inl fit) = (views.SubjectAltName fit.0, (is, fit.1))
+subject_names kind octets is (inr none) = (views.Raw octets, (subst (λ (k : ExtensionKind). MayBeKept k octets) is none, refl))
 
-issuer_names : (kind : ExtensionKind) (octets : List ℕ) (names : Bool) → kinds.IssuerAltName ≡ kind
-    → (IsTrue names → FitsWithin AreGeneralNames octets) → (names ≡ false → HoldsNoNames octets)
+issuer_names : (kind : ExtensionKind) (octets : List ℕ) → kinds.IssuerAltName ≡ kind
+    → FitsWithin AreGeneralNames octets ⊎ HoldsNoNames octets
     → (view : ExtensionView) × IsValueOf kind octets view
-issuer_names kind octets true is fits unfit = let fit = fits refl in (views.IssuerAltName fit.0, (is, fit.1))
-issuer_names kind octets false is fits unfit = (views.Raw octets, (subst (λ (k : ExtensionKind). MayBeKept k octets) is (unfit refl), refl))
+issuer_names kind octets is (inl fit) = (views.IssuerAltName fit.0, (is, fit.1))
+issuer_names kind octets is (inr none) = (views.Raw octets, (subst (λ (k : ExtensionKind). MayBeKept k octets) is none, refl))
 
 -- under the two kinds any octets encode names, or are raw
-pub names_fit : (kind : ExtensionKind) (octets : List ℕ) (names : Bool)
+pub names_fit : (kind : ExtensionKind) (octets : List ℕ) → IsOctets octets
     → (kind ≡ kinds.SubjectAltName) ⊎ (kind ≡ kinds.IssuerAltName)
-    → (IsTrue names → FitsWithin AreGeneralNames octets) → (names ≡ false → HoldsNoNames octets)
     → (view : ExtensionView) × IsValueOf kind octets view
-names_fit kind octets names (inl is) fits unfit = subject_names kind octets names (sym is) fits unfit
-names_fit kind octets names (inr is) fits unfit = issuer_names kind octets names (sym is) fits unfit
+names_fit kind octets fits (inl is) = subject_names kind octets (sym is) (names_or_not octets fits)
+names_fit kind octets fits (inr is) = issuer_names kind octets (sym is) (names_or_not octets fits)
 
 -- octets that encode no names are raw under their kind
 pub subject_kept : (kind : ExtensionKind) (octets kept : List ℕ)

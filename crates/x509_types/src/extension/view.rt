@@ -62,11 +62,8 @@ impl ExtensionView {
         match kind {
             ExtensionKind::SubjectKeyIdentifier => has_within::<Octets>(octets),
             ExtensionKind::KeyUsage => has_within::<KeyUsage>(octets),
-            ExtensionKind::SubjectAltName | ExtensionKind::IssuerAltName => {
-                // Any octets do. The contract alone needs to know whether they encode names.
-                let _names = has_within::<RawGeneralNames>(octets);
-                true
-            }
+            // Alternative names that don't parse are raw.
+            ExtensionKind::SubjectAltName | ExtensionKind::IssuerAltName => true,
             ExtensionKind::BasicConstraints => has_within::<BasicConstraints>(octets),
             ExtensionKind::AuthorityKeyIdentifier => has_within::<AuthorityKeyIdentifier>(octets),
             ExtensionKind::ExtendedKeyUsage => has_within::<ExtendedKeyUsage>(octets),

@@ -1,4 +1,4 @@
-use Rattle.std.proofs.Common.{sym, refl, subst}
+use Rattle.std.proofs.Common.{sym, refl, subst, arith}
 use Rattle.x509_types.specs.ExtensionView.{MayBeKept}
 use Rattle.x509_types.specs.declared.extension.kind.ExtensionKind.{ExtensionKind}
 use Rattle.x509_types.specs.declared.extension.view.ExtensionView.TheVariants as views
@@ -18,7 +18,7 @@ pub returns-in-KeyUsage-clause-unfit : goal.returns-in-KeyUsage-clause-unfit
 returns-in-KeyUsage-clause-unfit c = λ no view of. let value = usage_of _ _ view c.in-KeyUsage.is of in c.has_within-in-KeyUsage.ensures.unfit no value.0 value.1
 
 pub returns-in-SubjectAltName-clause-fits : goal.returns-in-SubjectAltName-clause-fits
-returns-in-SubjectAltName-clause-fits c = λ w. names_fit _ _ _ c.in-SubjectAltName.is c.has_within-names.ensures.fits c.has_within-names.ensures.unfit
+returns-in-SubjectAltName-clause-fits c = λ w. names_fit c.args.kind c.args.octets.now (λ i. omega (arith, c.type_inv.octets i)) c.in-SubjectAltName.is
 
 pub returns-in-BasicConstraints-clause-fits : goal.returns-in-BasicConstraints-clause-fits
 returns-in-BasicConstraints-clause-fits c = λ w. let fit = c.has_within-in-BasicConstraints.ensures.fits w in (views.BasicConstraints fit.0, (sym c.in-BasicConstraints.is, fit.1))
