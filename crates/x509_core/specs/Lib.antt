@@ -1,8 +1,7 @@
 -- Promises, which public contracts cite: all but those named below; first `Window`, `Link`, `Chain`.
 -- Words of the crates above: `Distinct`.
--- Inside, which no public contract cites: `KeylessParts`, `Facts`.
+-- Inside, which no public contract cites: `Facts`.
 pub mod Keyless
-pub mod KeylessParts
 pub mod KeptCertificate
 pub mod FirstValue
 pub mod Distinct

@@ -204,21 +204,21 @@ impl Cert {
     pub fn serial_number(&self) -> &IntegerAsn1
         ensures { result.now ≡ self.now.certificate.tbs_certificate.serial_number }
     {
-        &self.rest.serial_number
+        &self.rest.issued.serial_number
     }
 
     /// The signature algorithm in the TBSCertificate (RFC 5280 4.1.2.3).
     pub fn signature_algorithm(&self) -> &AlgorithmIdentifier
         ensures { result.now ≡ self.now.certificate.tbs_certificate.signature }
     {
-        &self.rest.signature
+        &self.rest.issued.signature
     }
 
     /// The issuer's name (RFC 5280 4.1.2.4).
     pub fn issuer_name(&self, alloc: Global) -> Result<DirectoryName, AllocError>
         ensures { IfOk result (λ copy. sets_of copy ≡ self.now.certificate.tbs_certificate.issuer) }
     {
-        Ok(DirectoryName::from(self.rest.issuer.try_clone(alloc)?))
+        Ok(DirectoryName::from(self.rest.issued.issuer.try_clone(alloc)?))
     }
 
     /// The first second of the validity (RFC 5280 4.1.2.5).
@@ -226,7 +226,7 @@ impl Cert {
         ensures { generalized_fields result
             ≡ time_fields self.now.certificate.tbs_certificate.validity.not_before }
     {
-        date_of(&self.rest.validity.not_before)
+        date_of(&self.rest.issued.validity.not_before)
     }
 
     /// The last second of the validity (RFC 5280 4.1.2.5).
@@ -234,7 +234,7 @@ impl Cert {
         ensures { generalized_fields result
             ≡ time_fields self.now.certificate.tbs_certificate.validity.not_after }
     {
-        date_of(&self.rest.validity.not_after)
+        date_of(&self.rest.issued.validity.not_after)
     }
 
     /// The subject's name (RFC 5280 4.1.2.6).
@@ -242,7 +242,7 @@ impl Cert {
         ensures { IfOk result
             (λ copy. sets_of copy ≡ self.now.certificate.tbs_certificate.subject) }
     {
-        Ok(DirectoryName::from(self.rest.subject.try_clone(alloc)?))
+        Ok(DirectoryName::from(self.rest.issued.subject.try_clone(alloc)?))
     }
 
     /// The subject's key with its algorithm (RFC 5280 4.1.2.7).
@@ -269,7 +269,7 @@ impl Cert {
     pub fn extensions(&self) -> &[Extension]
         ensures { result.now ≡ extensions_in self.now.certificate.tbs_certificate.extensions }
     {
-        match &self.rest.extensions {
+        match &self.rest.later.extensions {
             Some(extensions) => extensions.as_slice(),
             None => &[],
         }
@@ -279,7 +279,7 @@ impl Cert {
     pub(crate) fn outer_algorithm(&self) -> &AlgorithmIdentifier
         ensures { result.now ≡ self.now.certificate.signature_algorithm }
     {
-        &self.rest.signature_algorithm
+        &self.rest.later.signature_algorithm
     }
 
     /// A copy of the certificate.

@@ -12,7 +12,6 @@ mod error;
 mod error_name;
 mod key_link;
 mod keyless;
-mod keyless_parts;
 mod laws;
 mod link;
 mod parent;
