@@ -13,9 +13,9 @@ use Rattle.cms_content.specs.declared.content_kind.ContentKind.{ContentKind}
 use Rattle.cms_content.specs.declared.content_kind.ContentKind.TheVariants as kinds
 use Rattle.cms_content.specs.declared.content_value.ContentValue.{ContentValue}
 use Rattle.cms_content.specs.declared.content_value.ContentValue.TheVariants as contents
-use Rattle.cms_types.specs.Facts.SignedDatas.{told_value}
-use Rattle.cms_types.specs.Facts.SignerElements.{told_data, same_data, same_signer}
-use Rattle.cms_types.specs.Facts.SignerInfos.{told_signer}
+use Rattle.cms_types.specs.Facts.SignedDatas.{determined_value}
+use Rattle.cms_types.specs.Facts.SignerElements.{determined_data, same_data, same_signer}
+use Rattle.cms_types.specs.Facts.SignerInfos.{determined_signer}
 use Rattle.cms_types.specs.Pkcs7Elements.{pkcs7_of}
 use Rattle.cms_types.specs.SignedData.{signed_data_elements}
 use Rattle.cms_types.specs.SignedDataElements.{SignedDataElements, signed_data_of}
@@ -43,13 +43,13 @@ pub fields_of_view : (element : DerElement) (view : SignedView) (is : IsSignedVi
 fields_of_view element view is =
     let f = data_elements view in
     let g = signed_data_elements is.value.signed_data in
-    same_data f g (told_data f is.fields) (told_value is.value.signed_data) (inside f g (sym is.is ∙ is.spelled))
+    same_data f g (determined_data f is.fields) (determined_value is.value.signed_data) (inside f g (sym is.is ∙ is.spelled))
 
 pub are_spelled : (element : DerElement) (view : SignedView) → IsSignedView element view → AreSpelled (data_elements view)
 are_spelled element view is = (is.value.signed_data, fields_of_view element view is)
 
 pub same_fields_of : (a b : SignedData) → pkcs7_of (signed_data_of (signed_data_elements a)) ≡ pkcs7_of (signed_data_of (signed_data_elements b)) → signed_data_elements a ≡ signed_data_elements b
-same_fields_of a b e = same_data (signed_data_elements a) (signed_data_elements b) (told_value a) (told_value b) (inside (signed_data_elements a) (signed_data_elements b) e)
+same_fields_of a b e = same_data (signed_data_elements a) (signed_data_elements b) (determined_value a) (determined_value b) (inside (signed_data_elements a) (signed_data_elements b) e)
 
 -- ---- members
 
@@ -131,4 +131,4 @@ algorithm_once f a b p q = heads a b p.0 q.0 (sym p.1 ∙ q.1)
 
 pub signer_once : (f : SignedDataElements) (a b : SignerElements) → IsFirstSigner f a → IsFirstSigner f b → a ≡ b
 signer_once f a b p q =
-    p.is ∙ same_signer (signer_elements p.value) (signer_elements q.value) (told_signer p.value) (told_signer q.value) (heads (signer_info p.value) (signer_info q.value) p.others q.others (sym p.first ∙ q.first)) ∙ sym q.is
+    p.is ∙ same_signer (signer_elements p.value) (signer_elements q.value) (determined_signer p.value) (determined_signer q.value) (heads (signer_info p.value) (signer_info q.value) p.others q.others (sym p.first ∙ q.first)) ∙ sym q.is

@@ -7,8 +7,8 @@ use Rattle.asn1_types.specs.declared.oids.TheConstants.{SPC_INDIRECT_DATA}
 use Rattle.cms_content.specs.ContentInfoElements.{content_info_of}
 use Rattle.cms_content.specs.ContentValue.{content_value}
 use Rattle.cms_content.specs.Facts.ContentInfos.{fields_once}
-use Rattle.cms_types.specs.Facts.SignerElements.{told_fields, same_signer}
-use Rattle.cms_types.specs.Facts.SignerInfos.{told_signer}
+use Rattle.cms_types.specs.Facts.SignerElements.{determined_fields, same_signer}
+use Rattle.cms_types.specs.Facts.SignerInfos.{determined_signer}
 use Rattle.cms_types.specs.SignedDataElements.{SignedDataElements}
 use Rattle.cms_types.specs.SignerElements.{SignerElements}
 use Rattle.cms_types.specs.SignerInfo.{signer_info, signer_elements}
@@ -43,7 +43,7 @@ no_members (Constructed tag elements) e = absurd cc
 -- ---- the signer
 
 pub signer_lies : (element : DerElement) (view : SignerView) (is : IsSignerView element view) → signer_elements_at view ≡ signer_elements is.value
-signer_lies element view is = same_signer (signer_elements_at view) (signer_elements is.value) (told_fields (signer_elements_at view) is.fields) (told_signer is.value) (sym is.is ∙ is.spelled)
+signer_lies element view is = same_signer (signer_elements_at view) (signer_elements is.value) (determined_fields (signer_elements_at view) is.fields) (determined_signer is.value) (sym is.is ∙ is.spelled)
 
 pub signers_are : (f : SignedDataElements) (element : DerElement) → element ≡ f.signers_infos → signers_of f ≡ members_of (Some element)
 signers_are f element e = ap (λ (x : DerElement). members_of (Some x)) (sym e)

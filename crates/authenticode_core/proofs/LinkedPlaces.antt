@@ -6,7 +6,7 @@ use Rattle.der_core.specs.Rules.{IsFirstBroken}
 use Rattle.key_core.specs.Verifying.{Judge}
 use Rattle.x509_core.specs.Chain.{last_of}
 use Rattle.x509_core.specs.KeptCertificate.{KeptCertificate}
-use Rattle.x509_core.specs.Link.{IsLink, IsStandingFor, link_rules}
+use Rattle.x509_core.specs.Link.{IsLink, IsCountFor, link_rules}
 use Rattle.x509_core.specs.Rules.{RefusesCertBy}
 use Rattle.x509_core.specs.declared.error.CertError.{CertError}
 use Rattle.x509_core.specs.declared.error.CertError.TheVariants as errors
@@ -41,7 +41,7 @@ stand_more bag [] (k ∷ ks) place parent stand stands = absurd stand
 stand_more bag (first ∷ places) [] place parent stand stands = absurd stand
 stand_more bag (first ∷ places) (k ∷ ks) place parent stand stands = (stand.0, stand_more bag places ks place parent stand.1 stands)
 
-counted_more : (below : List KeptCertificate) (parent : KeptCertificate) (n m : ℕ) → IsStandingFor n (length below) → m ≡ min (n + 1) (2 ^ 16 - 1) → IsStandingFor m (length (below ++ parent ∷ []))
+counted_more : (below : List KeptCertificate) (parent : KeptCertificate) (n m : ℕ) → IsCountFor n (length below) → m ≡ min (n + 1) (2 ^ 16 - 1) → IsCountFor m (length (below ++ parent ∷ []))
 counted_more below parent n m so_far more =
     let long : length (below ++ parent ∷ []) ≡ length below + 1 = one_more below parent in
     omega (arith, so_far, more, long)

@@ -8,9 +8,9 @@ use Rattle.asn1_types.specs.declared.oid.ObjectIdentifier.{ObjectIdentifier}
 use Rattle.asn1_types.specs.declared.oids.TheConstants as identifiers
 use Rattle.cms_content.specs.declared.content_value.ContentValue.TheVariants as contents
 use Rattle.cms_types.proofs.SignerLaws.{inside, value_of_pkcs7, value_of_signer}
-use Rattle.cms_types.specs.Facts.SignedDatas.{told_value}
-use Rattle.cms_types.specs.Facts.SignerElements.{told_data, told_fields, same_data, same_signer}
-use Rattle.cms_types.specs.Facts.SignerInfos.{told_signer}
+use Rattle.cms_types.specs.Facts.SignedDatas.{determined_value}
+use Rattle.cms_types.specs.Facts.SignerElements.{determined_data, determined_fields, same_data, same_signer}
+use Rattle.cms_types.specs.Facts.SignerInfos.{determined_signer}
 use Rattle.cms_types.specs.Levels.{AreSignerFields, AreSignedDataFields, IsAlgorithm, IsContentInfo, IsSignerIdentifier}
 use Rattle.cms_types.specs.Pkcs7Elements.{pkcs7_of}
 use Rattle.cms_types.specs.SignedData.{signed_data_elements}
@@ -191,7 +191,7 @@ plain_form_has_signed_data octets p form =
       named = form.named;
       value = value.0;
       spelled = subst (IsPaddedEncoding form.certificate) value.1 form.spelled;
-      fields = same_data (plain_elements p) (signed_data_elements value.0.signed_data) (told_data (plain_elements p) (data_fields_have_shape p b.parameters b.content)) (told_value value.0.signed_data)
+      fields = same_data (plain_elements p) (signed_data_elements value.0.signed_data) (determined_data (plain_elements p) (data_fields_have_shape p b.parameters b.content)) (determined_value value.0.signed_data)
           (within (plain_elements p) (signed_data_elements value.0.signed_data) value.1);
     }
 
@@ -204,7 +204,7 @@ first_signer p some der =
     record {
       value = value.0;
       others = [];
-      is = same_signer (plain_signer p.signer) (signer_elements value.0) (told_fields (plain_signer p.signer) (signer_fields_have_shape p.signer some b.parameters b.signer)) (told_signer value.0) value.1;
+      is = same_signer (plain_signer p.signer) (signer_elements value.0) (determined_fields (plain_signer p.signer) (signer_fields_have_shape p.signer some b.parameters b.signer)) (determined_signer value.0) value.1;
       first = ap (λ (e : DerElement). e ∷ []) value.1;
     }
 

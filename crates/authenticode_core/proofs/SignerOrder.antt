@@ -25,13 +25,13 @@ use Rattle.x509_types.specs.CertificateElements.{CertificateElements}
 use Rattle.authenticode_core.specs.ContentRefusal.{of_certificates}
 use Rattle.authenticode_core.specs.Inside.Form.{AreSpelled}
 use Rattle.authenticode_core.specs.Excuses.{HasBadStamp, HasNoExcuse, HasReason}
-use Rattle.authenticode_core.specs.Inside.PolicySteps.{IsExpiry, IsUnlinkedPath, TellsExpiry, standing_rules, validity_rules}
+use Rattle.authenticode_core.specs.Inside.PolicySteps.{IsExpiry, IsUnlinkedPath, TellsExpiry, valid_and_vouched_rules, validity_rules}
 use Rattle.authenticode_core.specs.Inside.SigningSteps.{HasSigner}
 use Rattle.authenticode_core.specs.IssuerWalk.{IsIssuerPath}
 use Rattle.authenticode_core.specs.LinkedPath.{IsPathAsked, IsUnlinkedAt, IsVouchedPath}
 use Rattle.authenticode_core.specs.Policy.{policy_checks, window_of}
 use Rattle.authenticode_core.specs.SignedFields.{IsFirstSigner, signers_of}
-use Rattle.authenticode_core.specs.SignerRules.{HasKeyName, HasUnknownName, IsBadlyStamped, IsKeptSigner, IsSignerVouched, IsStanding, IsUnbegun, IsUndated, IsUnexcused, IsUnvouched, IsValidOrExcusable, LacksSigner, signer_rules}
+use Rattle.authenticode_core.specs.SignerRules.{HasKeyName, HasUnknownName, IsBadlyStamped, IsKeptSigner, IsSignerVouched, IsValidAndVouched, IsUnbegun, IsUndated, IsUnexcused, IsUnvouched, IsValidOrExcusable, LacksSigner, signer_rules}
 use Rattle.authenticode_core.specs.SigningRules.{HasNoCertificate, IsBagOf, IsNamedByKey, IsSignerCertificate, RefusesAuthenticodeBy}
 use Rattle.authenticode_core.specs.declared.accepted.Accepted.{Accepted}
 use Rattle.authenticode_core.specs.declared.accepted.Excuse.{Excuse}
@@ -154,12 +154,12 @@ module _ (judge : Judge) (policy : Policy) (f : SignedDataElements) where
 
   pub undated : (place : ℕ) (c : CertificateElements) (cause : CertError) → HasSigner f place c → LacksDate (policy_checks policy) cause → RefusesAuthenticodeBy (signer_rules judge policy f) (of_certificates cause)
   undated place c cause s lacks =
-      inl (broken_behind (named_rules f) (IsUndated policy ∷ standing_rules judge policy f) (of_certificates cause) (named_met f s.0 place c s.1 s.2) (inl (cause, lacks, undated_told policy cause lacks)))
+      inl (broken_behind (named_rules f) (IsUndated policy ∷ valid_and_vouched_rules judge policy f) (of_certificates cause) (named_met f s.0 place c s.1 s.2) (inl (cause, lacks, undated_told policy cause lacks)))
 
-  pub not_standing : (place : ℕ) (c : CertificateElements) (e : AuthenticodeError) → HasSigner f place c → IsDated (policy_checks policy) → RefusesAuthenticodeBy (standing_rules judge policy f) e → RefusesAuthenticodeBy (signer_rules judge policy f) e
-  not_standing place c e s dated (inl broken) =
-      inl (broken_behind (named_rules f) (IsUndated policy ∷ standing_rules judge policy f) e (named_met f s.0 place c s.1 s.2) (inr (dated_met policy dated, broken)))
-  not_standing place c e s dated (inr memory) = inr memory
+  pub not_valid_and_vouched : (place : ℕ) (c : CertificateElements) (e : AuthenticodeError) → HasSigner f place c → IsDated (policy_checks policy) → RefusesAuthenticodeBy (valid_and_vouched_rules judge policy f) e → RefusesAuthenticodeBy (signer_rules judge policy f) e
+  not_valid_and_vouched place c e s dated (inl broken) =
+      inl (broken_behind (named_rules f) (IsUndated policy ∷ valid_and_vouched_rules judge policy f) e (named_met f s.0 place c s.1 s.2) (inr (dated_met policy dated, broken)))
+  not_valid_and_vouched place c e s dated (inr memory) = inr memory
 
   -- ---- the rules for the signer's certificate
 
@@ -261,12 +261,12 @@ module _ (judge : Judge) (policy : Policy) (f : SignedDataElements) where
         inl (inr (begun_met expired, inr (unexcused_met e stamp, inl (record { bag = bag; place = place; signer = signer; is = is; expired = expired; stamp = stamp }))))
 
     -- one of these rules is one of those before that of the issuer path
-    pub before_path : (e : AuthenticodeError) → RefusesAuthenticodeBy (validity_rules judge policy f) e → RefusesAuthenticodeBy (standing_rules judge policy f) e
+    pub before_path : (e : AuthenticodeError) → RefusesAuthenticodeBy (validity_rules judge policy f) e → RefusesAuthenticodeBy (valid_and_vouched_rules judge policy f) e
     before_path e (inl broken) = inl (broken_before (validity_rules judge policy f) (IsUnvouched judge policy f ∷ []) e broken)
     before_path e (inr memory) = inr memory
 
     unvouched_told : (x : Excuse) (cause : CertError) → IsValidOrExcusable judge policy f bag signer.elements x → IsTrue policy.chain → IsUnlinkedPath judge (window_of policy) bag signer cause → (of_certificates cause ≡ errors.CertError cause) ⊎ (cause ≡ cert_errors.Memory)
-        → RefusesAuthenticodeBy (standing_rules judge policy f) (of_certificates cause)
+        → RefusesAuthenticodeBy (valid_and_vouched_rules judge policy f) (of_certificates cause)
     unvouched_told x cause valid asked unlinked (inl told) =
         inl (broken_behind (validity_rules judge policy f) (IsUnvouched judge policy f ∷ []) (of_certificates cause) (validity_met x valid) (inl (record {
           bag = bag;
@@ -284,7 +284,7 @@ module _ (judge : Judge) (policy : Policy) (f : SignedDataElements) where
         })))
     unvouched_told x cause valid asked unlinked (inr memory) = inr (ap of_certificates memory)
 
-    pub unvouched : (x : Excuse) (cause : CertError) → IsValidOrExcusable judge policy f bag signer.elements x → IsTrue policy.chain → IsUnlinkedPath judge (window_of policy) bag signer cause → RefusesAuthenticodeBy (standing_rules judge policy f) (of_certificates cause)
+    pub unvouched : (x : Excuse) (cause : CertError) → IsValidOrExcusable judge policy f bag signer.elements x → IsTrue policy.chain → IsUnlinkedPath judge (window_of policy) bag signer cause → RefusesAuthenticodeBy (valid_and_vouched_rules judge policy f) (of_certificates cause)
     unvouched x cause valid asked unlinked = unvouched_told x cause valid asked unlinked (told_of_certificates cause)
 
     -- ---- certificates that aren't valid
@@ -311,7 +311,7 @@ module _ (judge : Judge) (policy : Policy) (f : SignedDataElements) where
     stamped_or_memory cause e breaks tells (inr memory) = inr memory
 
     pub unvouched_or_memory : (x : Excuse) (cause : CertError) → IsValidOrExcusable judge policy f bag signer.elements x → (IsTrue policy.chain × IsUnlinkedPath judge (window_of policy) bag signer cause) ⊎ (cause ≡ cert_errors.Memory)
-        → RefusesAuthenticodeBy (standing_rules judge policy f) (of_certificates cause)
+        → RefusesAuthenticodeBy (valid_and_vouched_rules judge policy f) (of_certificates cause)
     unvouched_or_memory x cause valid (inl (asked, unlinked)) = unvouched x cause valid asked unlinked
     unvouched_or_memory x cause valid (inr memory) = inr (ap of_certificates memory)
 
@@ -324,20 +324,20 @@ module _ (judge : Judge) (policy : Policy) (f : SignedDataElements) where
 
     -- the certificate passes if it is valid or may be excused, and its issuer path is linked if the
     -- chain is checked
-    pub stands_over : (path : List ℕ) (x : Excuse) → IsValidOrExcusable judge policy f bag signer.elements x → IsPathAsked policy.chain judge (window_of policy) bag signer path → IsStanding judge policy f bag signer path x
+    pub stands_over : (path : List ℕ) (x : Excuse) → IsValidOrExcusable judge policy f bag signer.elements x → IsPathAsked policy.chain judge (window_of policy) bag signer path → IsValidAndVouched judge policy f bag signer path x
     stands_over path excuses.None valid linked = record { begun = valid.begun; lasts = valid.lasts; path_is = linked }
     stands_over path excuses.Bag valid linked = record { begun = valid.0.0; lasts = (valid.0, record { reason = valid.1; path_is = linked }); path_is = linked }
     stands_over path excuses.Token valid linked = record { begun = valid.0.0; lasts = (valid.0, record { reason = valid.1; path_is = linked }); path_is = linked }
 
-    pub standing_is_valid : (path : List ℕ) (x : Excuse) → IsStanding judge policy f bag signer path x → IsValidOrExcusable judge policy f bag signer.elements x
-    standing_is_valid path excuses.None stands = record { begun = stands.begun; lasts = stands.lasts }
-    standing_is_valid path excuses.Bag stands = (stands.lasts.0, stands.lasts.1.reason)
-    standing_is_valid path excuses.Token stands = (stands.lasts.0, stands.lasts.1.reason)
+    pub vouched_is_valid : (path : List ℕ) (x : Excuse) → IsValidAndVouched judge policy f bag signer path x → IsValidOrExcusable judge policy f bag signer.elements x
+    vouched_is_valid path excuses.None stands = record { begun = stands.begun; lasts = stands.lasts }
+    vouched_is_valid path excuses.Bag stands = (stands.lasts.0, stands.lasts.1.reason)
+    vouched_is_valid path excuses.Token stands = (stands.lasts.0, stands.lasts.1.reason)
 
     pub vouched_or_not : IsDated (policy_checks policy) → (r : Result Accepted AuthenticodeError)
-        → MatchResult r (λ a. (a.signer ≡ Some place) × IsStanding judge policy f bag signer a.path a.excuse) (RefusesAuthenticodeBy (standing_rules judge policy f)) → MatchResult r (IsSignerVouched judge policy f) (RefusesAuthenticodeBy (signer_rules judge policy f))
+        → MatchResult r (λ a. (a.signer ≡ Some place) × IsValidAndVouched judge policy f bag signer a.path a.excuse) (RefusesAuthenticodeBy (valid_and_vouched_rules judge policy f)) → MatchResult r (IsSignerVouched judge policy f) (RefusesAuthenticodeBy (signer_rules judge policy f))
     vouched_or_not dated (Ok a) h = record { bag = bag; place = place; signer = signer; is = is; place_is = h.0; dated = dated; valid = h.1 }
-    vouched_or_not dated (Err e) h = not_standing place signer.elements e (bag, is.is_bag, is.is_signer) dated h
+    vouched_or_not dated (Err e) h = not_valid_and_vouched place signer.elements e (bag, is.is_bag, is.is_signer) dated h
 
 -- the stored certificate of the signer
 pub kept_signer : (f : SignedDataElements) (place : ℕ) (c : CertificateElements) (signer : KeptCertificate) (s : HasSigner f place c) → signer.elements ≡ c → IsKeptSigner f s.0 place signer

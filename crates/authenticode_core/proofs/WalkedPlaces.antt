@@ -68,15 +68,15 @@ is_last : (place other : ℕ) → Contains (place ∷ []) other → place ≡ ot
 is_last place other last = is_last_at place other last.0 (omega (arith, last.1)) last.2
 
 -- what holds with one more index
-told_more : (bag : List CertificateElements) (places : List ℕ) (place : ℕ) (c : CertificateElements) (asks : Bool) → StandsAt bag place c → (IsTrue asks → HasPurposesAmong bag places) → IsTrue asks ⊎ HasPurposes c
+asks_more : (bag : List CertificateElements) (places : List ℕ) (place : ℕ) (c : CertificateElements) (asks : Bool) → StandsAt bag place c → (IsTrue asks → HasPurposesAmong bag places) → IsTrue asks ⊎ HasPurposes c
     → HasPurposesAmong bag (places ++ place ∷ [])
-told_more bag places place c asks stands told (inl t) = still_among bag places place (told t)
-told_more bag places place c asks stands told (inr purposes) = now_among bag places place c stands purposes
+asks_more bag places place c asks stands told (inl t) = still_among bag places place (told t)
+asks_more bag places place c asks stands told (inr purposes) = now_among bag places place c stands purposes
 
-told_back : (bag : List CertificateElements) (places : List ℕ) (place : ℕ) (c : CertificateElements) (asks : Bool) → StandsAt bag place c → (HasPurposesAmong bag places → IsTrue asks) → (h : HasPurposesAmong bag (places ++ place ∷ []))
+asks_back : (bag : List CertificateElements) (places : List ℕ) (place : ℕ) (c : CertificateElements) (asks : Bool) → StandsAt bag place c → (HasPurposesAmong bag places → IsTrue asks) → (h : HasPurposesAmong bag (places ++ place ∷ []))
     → Contains places h.place ⊎ Contains (place ∷ []) h.place → IsTrue asks ⊎ HasPurposes c
-told_back bag places place c asks stands told h (inl among) = inl (told (record { place = h.place; among = among; c = h.c; stands = h.stands; purposes = h.purposes }))
-told_back bag places place c asks stands told h (inr last) =
+asks_back bag places place c asks stands told h (inl among) = inl (told (record { place = h.place; among = among; c = h.c; stands = h.stands; purposes = h.purposes }))
+asks_back bag places place c asks stands told h (inr last) =
     inr (subst HasPurposes (same_certificate bag place h.place c h.c (is_last place h.place last) stands h.stands) h.purposes)
 
 least_here : (bag : List CertificateElements) (holds : CertificateElements → Type 0) (place : ℕ) (c : CertificateElements) → StandsAt bag place c → holds c → IsLeastPlace bag holds place place c
@@ -93,8 +93,8 @@ walked_more bag subject walk next asks asks' c w stands fits looks asked = recor
   looks = looks;
   joined = joined_more bag subject w.next w.places w.from w.from c (least_here bag (HasSubject w.next) w.from c stands fits) w.joined;
   asks_is = (
-    λ t. told_more bag w.places w.from c asks stands w.asks_is.0 (asked.0 t),
-    λ h. asked.1 (told_back bag w.places w.from c asks stands w.asks_is.1 h (Contains-append_cases w.places (w.from ∷ []) h.place h.among)),
+    λ t. asks_more bag w.places w.from c asks stands w.asks_is.0 (asked.0 t),
+    λ h. asked.1 (asks_back bag w.places w.from c asks stands w.asks_is.1 h (Contains-append_cases w.places (w.from ∷ []) h.place h.among)),
   );
 }
 

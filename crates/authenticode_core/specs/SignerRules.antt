@@ -42,7 +42,7 @@ LastsOrIsExcused judge policy f bag signer path excuse =
 
 -- The signer's certificate is valid, except that its not-after date, and no other rule, may be
 -- excused; and if the chain is checked, the path is its issuer path, a chain above it, else empty.
-pub record IsStanding (judge : Judge) (policy : Policy) (f : SignedDataElements)
+pub record IsValidAndVouched (judge : Judge) (policy : Policy) (f : SignedDataElements)
     (bag : List CertificateElements) (signer : KeptCertificate) (path : List ℕ)
     (excuse : Excuse) : Type 0 where
   pub begun : HasBegun (window_of policy) signer.elements
@@ -59,7 +59,7 @@ pub record IsSignerVouched (judge : Judge) (policy : Policy) (f : SignedDataElem
   pub is : IsKeptSigner f bag place signer
   pub place_is : a.signer ≡ Some place
   pub dated : IsDated (policy_checks policy)
-  pub valid : IsStanding judge policy f bag signer a.path a.excuse
+  pub valid : IsValidAndVouched judge policy f bag signer a.path a.excuse
 
 -- ---- rules, by what breaks them
 

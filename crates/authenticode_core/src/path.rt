@@ -5,7 +5,7 @@ ghost use Rattle.der_core.specs.Rules.{OrMemory};
 ghost use Rattle.cms_types.specs.SignedView.{data_elements};
 ghost use Rattle.x509_types.specs.CertificateElements.{CertificateElements};
 ghost use Rattle.x509_types.specs.CertificateView.{view_elements};
-ghost use Rattle.x509_core.specs.Link.{IsStandingFor};
+ghost use Rattle.x509_core.specs.Link.{IsCountFor};
 ghost use Rattle.x509_core.specs.declared.error.CertError.TheVariants as errors;
 ghost use Rattle.authenticode_core.specs.Excuses.{IsLinkedToken, IsUnlinkedToken, any_time};
 ghost use Rattle.authenticode_core.specs.Inside.Linking.{IsBrokenNext, IsLinkedSoFar, IsNextLink, IsNoLink};
@@ -166,7 +166,7 @@ fn linked_parent<S: Scheme>(
     window: &Window,
     scheme: &S,
 ) -> Result<Cert, CertError>
-    ensures { (count : ℕ) → IsStandingFor number count
+    ensures { (count : ℕ) → IsCountFor number count
         → MatchResult result
         (IsNextLink (S.judge scheme.now) window.now count child.now
         (view_elements next.now.certificate))

@@ -12,12 +12,12 @@ ghost use Rattle.x509_core.specs.declared.error.CertError.TheVariants as cert_er
 ghost use Rattle.x509_types.specs.CertificateElements.{CertificateElements};
 ghost use Rattle.x509_types.specs.CertificateView.{view_elements};
 ghost use Rattle.authenticode_core.specs.Inside.Form.{AreSpelled};
-ghost use Rattle.authenticode_core.specs.Inside.PolicySteps.{IsExpiry, IsUnlinkedPath, TellsExpiry, standing_rules, validity_rules};
+ghost use Rattle.authenticode_core.specs.Inside.PolicySteps.{IsExpiry, IsUnlinkedPath, TellsExpiry, valid_and_vouched_rules, validity_rules};
 ghost use Rattle.authenticode_core.specs.Inside.SigningSteps.{HasSigner, HasSignerAt};
 ghost use Rattle.authenticode_core.specs.LinkedPath.{IsPathAsked};
 ghost use Rattle.authenticode_core.specs.Policy.{window_of};
 ghost use Rattle.authenticode_core.specs.SignedFields.{IsFirstSigner};
-ghost use Rattle.authenticode_core.specs.SignerRules.{IsKeptSigner, IsSignerVouched, IsStanding, IsValidOrExcusable, LacksSigner, signer_rules};
+ghost use Rattle.authenticode_core.specs.SignerRules.{IsKeptSigner, IsSignerVouched, IsValidAndVouched, IsValidOrExcusable, LacksSigner, signer_rules};
 ghost use Rattle.authenticode_core.specs.SigningRules.{HasNoCertificate, IsBagOf, IsNamedByKey, RefusesAuthenticodeBy};
 
 pub(crate) mod bag;
@@ -64,7 +64,7 @@ pub(crate) fn expect_signer<S: Scheme>(
     let checks = policy.checks();
     checks.expect_date()?;
     let signer = kept(alloc, &named)?;
-    expect_standing(alloc, signed_data, &named, signer, policy, scheme)
+    expect_valid_and_vouched(alloc, signed_data, &named, signer, policy, scheme)
 }
 
 /// The first signer.
@@ -115,7 +115,7 @@ pub(crate) fn expect_named<'a>(
 /// Checks that the signer's certificate is valid, or its expiry excused, and that the certificates
 /// of the issuer path are linked if the chain is checked. The certificate is given both borrowed
 /// and stored.
-fn expect_standing<S: Scheme>(
+fn expect_valid_and_vouched<S: Scheme>(
     alloc: Global,
     signed_data: &SignedView<'_>,
     named: &BagCertificate<'_>,
@@ -128,10 +128,10 @@ fn expect_standing<S: Scheme>(
         → IsKeptSigner (data_elements signed_data.now) bag named.now.place signer
         → MatchResult result
         (λ a. (a.signer ≡ Some named.now.place)
-        × IsStanding (S.judge scheme.now) policy.entry.now (data_elements signed_data.now) bag
+        × IsValidAndVouched (S.judge scheme.now) policy.entry.now (data_elements signed_data.now) bag
         signer a.path a.excuse)
         (RefusesAuthenticodeBy
-        (standing_rules (S.judge scheme.now) policy.entry.now (data_elements signed_data.now))) }
+        (valid_and_vouched_rules (S.judge scheme.now) policy.entry.now (data_elements signed_data.now))) }
 {
     let excuse = expect_validity(
         alloc,

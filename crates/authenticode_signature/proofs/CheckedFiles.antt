@@ -7,8 +7,8 @@ use Rattle.std.proofs.lemmas.Nat.{from_le_bytes-to_le_bytes_4}
 use Rattle.asn1_types.specs.Values.{integer_contents}
 use Rattle.asn1_types.specs.declared.oids.TheConstants.{CONTENT_TYPE, MESSAGE_DIGEST, SPC_INDIRECT_DATA, SPC_SP_OPUS_INFO}
 use Rattle.cms_types.specs.DigestAlgorithm.{digest_algorithm}
-use Rattle.cms_types.specs.Facts.SignerElements.{IsTold, same_signer}
-use Rattle.cms_types.specs.Facts.SignerInfos.{told_signer}
+use Rattle.cms_types.specs.Facts.SignerElements.{IsDetermined, same_signer}
+use Rattle.cms_types.specs.Facts.SignerInfos.{determined_signer}
 use Rattle.cms_types.specs.Pkcs7.{pkcs7}
 use Rattle.cms_types.specs.SignedData.{signed_data_elements}
 use Rattle.cms_types.specs.SignedDataElements.{SignedDataElements}
@@ -108,14 +108,14 @@ module _ (judge : Judge) (p : Program) (first : CertificateElements) (others : L
   abbrev indirect : IndirectData
   indirect = record { image = image_element; algorithm = digest_algorithm p.hash; digest = p.file_hash }
 
-  told_signer_made : IsTold signer
-  told_signer_made = record { signed_attrs = refl; signature_algorithm = λ e. omega (arith, e) }
+  determined_signer_made : IsDetermined signer
+  determined_signer_made = record { signed_attrs = refl; signature_algorithm = λ e. omega (arith, e) }
 
   found : (s : SignerInfo) × (signer_info s ≡ signer_of signer)
   found = one_signer value.signed_data.signers_infos (signer_of signer) (sym (listed-row (map signer_info value.signed_data.signers_infos)) ∙ ap signers_of m.fields)
 
   found_as : signer_elements found.0 ≡ signer
-  found_as = same_signer (signer_elements found.0) signer (told_signer found.0) told_signer_made found.1
+  found_as = same_signer (signer_elements found.0) signer (determined_signer found.0) determined_signer_made found.1
 
   alone : signers_of fields ≡ signer_info found.0 ∷ []
   alone = ap (λ (e : DerElement). e ∷ []) (sym found.1)

@@ -92,8 +92,8 @@ pub by_content : (a b : EncapsulatedContentInfo) (t : Bool) → a.content_type �
 by_content a b t ty content = (λ w. same_info a b ty (content.0 w), λ e. content.1 (ap (λ (x : EncapsulatedContentInfo). x.content) e))
 
 -- a test for equality is one of kind and octets
-pub told_decide : (a b : ContentValue) (t : Bool) → (IsTrue t ↔ (a ≡ b)) → t ≡ bytes_eq (content_octets a) (content_octets b)
-told_decide a b t same =
+pub decided_by_octets : (a b : ContentValue) (t : Bool) → (IsTrue t ↔ (a ≡ b)) → t ≡ bytes_eq (content_octets a) (content_octets b)
+decided_by_octets a b t same =
     let decides = bytes_eq-Decides (content_octets a) (content_octets b) in
     same_tests t (bytes_eq (content_octets a) (content_octets b)) same (λ w. values_by_octets a b (decides.0 w), λ e. decides.1 (ap content_octets e))
 

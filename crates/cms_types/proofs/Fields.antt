@@ -18,9 +18,9 @@ use Rattle.cms_types.specs.SignerParts.{AreSignatureFields, AreSignedByFields, s
 use Rattle.cms_types.specs.SignedData.{AreDataFields, signed_data_elements, signed_data}
 use Rattle.cms_types.specs.SignedDataParts.{AreCarriedFields, AreSigned, carried_of, signed_of}
 use Rattle.cms_types.specs.UnsignedAttribute.{unsigned_attribute}
-use Rattle.cms_types.specs.Facts.SignerElements.{told_fields, told_data, same_signer, same_data}
-use Rattle.cms_types.specs.Facts.SignerInfos.{told_signer}
-use Rattle.cms_types.specs.Facts.SignedDatas.{told_value}
+use Rattle.cms_types.specs.Facts.SignerElements.{determined_fields, determined_data, same_signer, same_data}
+use Rattle.cms_types.specs.Facts.SignerInfos.{determined_signer}
+use Rattle.cms_types.specs.Facts.SignedDatas.{determined_value}
 use Rattle.cms_types.specs.declared.signed_data.SignedData.{SignedData}
 use Rattle.cms_types.specs.declared.signer_info.SignerInfo.{SignerInfo}
 use Rattle.cms_types.proofs.ListFields.{list_option_printed, printed_list_option}
@@ -55,7 +55,7 @@ signer_same f s are =
 
 signer_by_fields : (e : DerElement) (f : SignerElements) (s : SignerInfo) → IsSignerOf e f → e ≡ signer_info s → AreFieldsOf f s
 signer_by_fields e f s of is =
-    let same = same_signer (signer_elements s) f (told_signer s) (told_fields f of.fields) (sym is ∙ of.is) in
+    let same = same_signer (signer_elements s) f (determined_signer s) (determined_fields f of.fields) (sym is ∙ of.is) in
     subst (λ (g : SignerElements). AreFieldsOf g s) same (own_fields s)
 
 -- a value of the fields is one of the element
@@ -99,7 +99,7 @@ data_same f d are =
 
 data_by_fields : (e : DerElement) (f : SignedDataElements) (d : SignedData) → IsSignedDataOf e f → e ≡ signed_data d → AreDataFields f d
 data_by_fields e f d of is =
-    let same = same_data (signed_data_elements d) f (told_value d) (told_data f of.fields) (sym is ∙ of.is) in
+    let same = same_data (signed_data_elements d) f (determined_value d) (determined_data f of.fields) (sym is ∙ of.is) in
     subst (λ (g : SignedDataElements). AreDataFields g d) same (own_data d)
 
 -- a value of the fields is one of the element

@@ -13,7 +13,7 @@ use Rattle.x509_types.specs.Attribute.{AreAttributes}
 use Rattle.cms_types.specs.SignerElements.{SignerElements, signer_of}
 use Rattle.cms_types.specs.SignedDataElements.{SignedDataElements, signed_data_of}
 use Rattle.cms_types.specs.Levels.{OfOption, IsConstructed, IsSignerOf, IsSignedDataOf}
-use Rattle.cms_types.specs.Facts.SignerElements.{options_split, told_fields, signer_tail, signer_kids, told_data, data_tail, data_kids, no_certificates, no_crls}
+use Rattle.cms_types.specs.Facts.SignerElements.{options_split, determined_fields, signer_tail, signer_kids, determined_data, data_tail, data_kids, no_certificates, no_crls}
 
 -- ---- elements in order
 
@@ -72,8 +72,8 @@ signer_third k0 k1 k2 k3 v s d f e0 e1 e2 is =
 pub signed_taken : (e : DerElement) (found : Option Elem) (k3 k4 : List DerElement) (f : SignerElements) → MatchOption found ((k4 ≡ k3) × BeginsOtherwise 0xA0 k3) (λ elem. (k3 ≡ elem.is.0 ∷ k4) × (tag_of elem.is.0 ≡ 0xA0))
     → IsSignerOf e f → k3 ≡ option_to_list f.signed_attrs ++ signer_tail f → (at_option found ≡ f.signed_attrs) × (k4 ≡ signer_tail f)
 signed_taken e found k3 k4 f m of is =
-    let told = told_fields f of.fields in
-    takes_once 0xA0 k3 (at_option found) f.signed_attrs k4 (signer_tail f) (takes 0xA0 found k3 k4 m) (record { are = is; tagged = told.signed_attrs; once = λ none. told.signature_algorithm })
+    let fixed = determined_fields f of.fields in
+    takes_once 0xA0 k3 (at_option found) f.signed_attrs k4 (signer_tail f) (takes 0xA0 found k3 k4 m) (record { are = is; tagged = fixed.signed_attrs; once = λ none. fixed.signature_algorithm })
 
 pub signed_fits : (f : SignerElements) (e : DerElement) (a : Option DerElement) → a ≡ f.signed_attrs → IsSignerOf e f → OfOption (Fits AreAttributes) a
 signed_fits f e a same of = subst (OfOption (Fits AreAttributes)) (sym same) of.fields.signed_attrs
@@ -122,13 +122,13 @@ pub last_taken : (e : DerElement) (certificates crls : Option Elem) (k3 k4 k5 : 
     → MatchOption crls ((k5 ≡ k4) × BeginsOtherwise 0xA1 k4) (λ elem. (k4 ≡ elem.is.0 ∷ k5) × (tag_of elem.is.0 ≡ 0xA1))
     → IsSignedDataOf e f → k3 ≡ option_to_list f.certificates ++ data_tail f → k5 ≡ f.signers_infos ∷ []
 last_taken e certificates crls k3 k4 k5 f m n of is =
-    let told = told_data f of.fields in
+    let fixed = determined_data f of.fields in
     let r4 = (takes_once 0xA0 k3 (at_option certificates) f.certificates k4 (data_tail f) (takes 0xA0 certificates k3 k4 m)
-    (record { are = is; tagged = told.certificates; once = λ none. no_certificates f.crls f.signers_infos told.crls told.signers_infos })).1 in
-    (takes_once 0xA1 k4 (at_option crls) f.crls k5 (f.signers_infos ∷ []) (takes 0xA1 crls k4 k5 n) (record { are = r4; tagged = told.crls; once = λ none. no_crls f.signers_infos told.signers_infos })).1
+    (record { are = is; tagged = fixed.certificates; once = λ none. no_certificates f.crls f.signers_infos fixed.crls fixed.signers_infos })).1 in
+    (takes_once 0xA1 k4 (at_option crls) f.crls k5 (f.signers_infos ∷ []) (takes 0xA1 crls k4 k5 n) (record { are = r4; tagged = fixed.crls; once = λ none. no_crls f.signers_infos fixed.signers_infos })).1
 
 pub no_signers : (e : DerElement) (k5 : List DerElement) (f : SignedDataElements) → IsSignedDataOf e f → k5 ≡ f.signers_infos ∷ [] → BeginsOtherwise 0x31 k5 → ⊥
-no_signers e k5 f of is other = subst (BeginsOtherwise 0x31) is other (told_data f of.fields).signers_infos
+no_signers e k5 f of is other = subst (BeginsOtherwise 0x31) is other (determined_data f of.fields).signers_infos
 
 pub data_ends : (k5 k6 : List DerElement) (s : DerElement) (f : SignedDataElements) → k5 ≡ f.signers_infos ∷ [] → k5 ≡ s ∷ k6 → HasMore k6 → ⊥
 data_ends k5 k6 s f is e5 more = no_more k6 more (after k5 s f.signers_infos k6 [] e5 is)

@@ -14,7 +14,7 @@ use Rattle.cms_types.specs.SignedDataElements.{SignedDataElements}
 use Rattle.cms_types.specs.Pkcs7Elements.{pkcs7_of}
 use Rattle.cms_types.specs.Levels.{IsSignerOf, IsSignedDataOf, IsUnsignedOf}
 use Rattle.cms_types.specs.Signers.{IsSignerInfo, Bare, WithUnsigned, IsUnsignedAttribute, Counter, MsCounter, Any, IsSignedData, Signed, IsPkcs7, Pkcs7, AreSignerInfos, NoSigners, MoreSigners, AreUnsignedAttributes, NoUnsigned, MoreUnsigned, ArePkcs7s, NoPkcs7s, MorePkcs7s}
-use Rattle.cms_types.specs.Facts.SignerElements.{told_fields, told_data, same_signer, same_data}
+use Rattle.cms_types.specs.Facts.SignerElements.{determined_fields, determined_data, same_signer, same_data}
 
 pub same_row : (tag : ℕ) (a b : List DerElement) → Constructed tag (row a) ≡ Constructed tag (row b) → a ≡ b
 same_row tag a b e = same_kids (Constructed tag (row a)) tag tag a b refl e
@@ -49,7 +49,7 @@ signer_level e (Bare {f = f} of none) = (f, of)
 signer_level e (WithUnsigned {f = f} of some each) = (f, of)
 
 pub one_signer : (e : DerElement) (f g : SignerElements) → IsSignerOf e f → IsSignerOf e g → f ≡ g
-one_signer e f g p q = same_signer f g (told_fields f p.fields) (told_fields g q.fields) (sym p.is ∙ q.is)
+one_signer e f g p q = same_signer f g (determined_fields f p.fields) (determined_fields g q.fields) (sym p.is ∙ q.is)
 
 pub signer_unsigned : (e : DerElement) (f : SignerElements) (attributes : List DerElement) → IsSignerInfo e → IsSignerOf e f → f.unsigned_attrs ≡ Some (Constructed 0xA1 (row attributes)) → AreUnsignedAttributes attributes
 signer_unsigned e f attributes (Bare {f = g} of none) there is =
@@ -94,7 +94,7 @@ pub data_level : (e : DerElement) → IsSignedData e → (f : SignedDataElements
 data_level e (Signed {f = f} of held each) = (f, of)
 
 pub one_data : (e : DerElement) (f g : SignedDataElements) → IsSignedDataOf e f → IsSignedDataOf e g → f ≡ g
-one_data e f g p q = same_data f g (told_data f p.fields) (told_data g q.fields) (sym p.is ∙ q.is)
+one_data e f g p q = same_data f g (determined_data f p.fields) (determined_data g q.fields) (sym p.is ∙ q.is)
 
 pub data_signers : (e : DerElement) (f : SignedDataElements) (signers : List DerElement) → IsSignedData e → IsSignedDataOf e f → f.signers_infos ≡ set signers → AreSignerInfos signers
 data_signers e f signers (Signed {f = g} {signers = b} of held each) there is =

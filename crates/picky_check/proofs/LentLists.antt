@@ -12,7 +12,7 @@ use Rattle.x509_types.specs.CertificateElements.{CertificateElements}
 use Rattle.authenticode_core.specs.AuthorityName.{IsNameAt}
 use Rattle.authenticode_core.specs.Excuses.{HasBadStamp, HasReason, IsExcused, IsStamped, IsUnlistedStamp, places_from, stamp_rules}
 use Rattle.authenticode_core.specs.ListRules.{HasUntrustedCa, IsOffList, IsSignerListed, IsTrustedCa, ca_rules}
-use Rattle.authenticode_core.specs.SignerRules.{IsBadlyStamped, IsSignerVouched, IsStanding, IsUnbegun, IsUnexcused, IsUnvouched, IsValidOrExcusable, LastsOrIsExcused, signer_rules}
+use Rattle.authenticode_core.specs.SignerRules.{IsBadlyStamped, IsSignerVouched, IsValidAndVouched, IsUnbegun, IsUnexcused, IsUnvouched, IsValidOrExcusable, LastsOrIsExcused, signer_rules}
 use Rattle.authenticode_core.specs.TrustList.{IsOnList, name_rules}
 use Rattle.authenticode_core.specs.Trusted.{IsAnswer, IsTrusted, asked, basic_rules, policy_rules}
 use Rattle.authenticode_core.specs.declared.accepted.Accepted.{Accepted}
@@ -93,7 +93,7 @@ module _ (judge : Judge) (p : Policy) (f : SignedDataElements) where
   lasts x y same bag signer path excuses.Token h = (h.0, excused x y same bag signer path excuses.Token h.1)
 
   standing : (x y : Lent) → AreSame x y → (bag : List CertificateElements) (signer : KeptCertificate) (path : List ℕ) (excuse : Excuse)
-      → IsStanding judge (under p x) f bag signer path excuse → IsStanding judge (under p y) f bag signer path excuse
+      → IsValidAndVouched judge (under p x) f bag signer path excuse → IsValidAndVouched judge (under p y) f bag signer path excuse
   standing x y same bag signer path excuse h = record { begun = h.begun; lasts = lasts x y same bag signer path excuse h.lasts; path_is = h.path_is }
 
   vouched : (x y : Lent) → AreSame x y → (a : Accepted) → IsSignerVouched judge (under p x) f a → IsSignerVouched judge (under p y) f a

@@ -5,7 +5,7 @@ use Rattle.asn1_types.specs.declared.generalized_time.GeneralizedTime.{Generaliz
 use Rattle.picky_check.specs.DateWord.{IsDateWord}
 use Rattle.picky_check.specs.Options as option
 use Rattle.picky_check.specs.ListOption.{AskedList}
-use Rattle.picky_check.specs.Options.{AreOptions, AreWordsOf, BeginsWithOption, CheckOption, CheckOptions, IsAbsent, AreOnce, no_options, standing, with_option}
+use Rattle.picky_check.specs.Options.{AreOptions, AreWordsOf, BeginsWithOption, CheckOption, CheckOptions, IsAbsent, AreOnce, no_options, with_options, with_option}
 
 -- ---- the first option, and the later ones
 
@@ -44,7 +44,7 @@ until_is (option.TrustList list) words rest begins = let are = begins.1 in absur
 pub none_are : AreOptions [] no_options
 none_are = record { options = []; are_words = refl; once = tt; is = refl }
 
-of_none : (options : List CheckOption) → AreWordsOf options [] → standing options ≡ no_options
+of_none : (options : List CheckOption) → AreWordsOf options [] → with_options options ≡ no_options
 of_none [] are = refl
 of_none (o ∷ others) are = absurd (no_words o are.0 are.1)
 
@@ -63,12 +63,12 @@ pub record AreSplit (words : List (List ℕ)) (o : CheckOptions) : Type 0 where
   pub is : o ≡ with_option first others
 
 split_options : (word : List ℕ) (words : List (List ℕ)) (o : CheckOptions) (options : List CheckOption) → AreWordsOf options (word ∷ words) → AreOnce options
-    → o ≡ standing options → AreSplit (word ∷ words) o
+    → o ≡ with_options options → AreSplit (word ∷ words) o
 split_options word words o [] are once is = absurd cc
 split_options word words o (first ∷ others) are once is = record {
   first = first;
   rest = are.0;
-  others = standing others;
+  others = with_options others;
   begins = are.1;
   are_others = record { options = others; are_words = are.2; once = once.1; is = refl };
   absent = once.0;

@@ -7,6 +7,6 @@ abbrev pub IsOpened : Option Files → List ℕ → Option (List ℕ) → Type 0
 IsOpened files name remaining = IsSome files → IsPicked files name remaining
 
 -- the octets left in the reader of the picked file, if the files are exposed
-abbrev pub told_rest : Option Files → Option (Option (List ℕ)) → Option (List ℕ)
-told_rest (Some files) (Some remaining) = remaining
-told_rest files reader = None
+abbrev pub unread_rest : Option Files → Option (Option (List ℕ)) → Option (List ℕ)
+unread_rest (Some files) (Some remaining) = remaining
+unread_rest files reader = None

@@ -63,9 +63,9 @@ with_option NoChain o = record o { no_chain = true }
 with_option (TrustList list) o = record o { list = Some list }
 
 -- these options are given, in whatever order
-abbrev pub standing : List CheckOption → CheckOptions
-standing [] = no_options
-standing (option ∷ others) = with_option option (standing others)
+abbrev pub with_options : List CheckOption → CheckOptions
+with_options [] = no_options
+with_options (option ∷ others) = with_option option (with_options others)
 
 -- the option isn't given, with whatever date or list
 abbrev pub IsAbsent : CheckOption → CheckOptions → Type 0
@@ -78,11 +78,11 @@ IsAbsent (TrustList list) o = o.list ≡ None
 -- each is given at most once: it isn't among the later ones
 abbrev pub AreOnce : List CheckOption → Type 0
 AreOnce [] = ⊤
-AreOnce (option ∷ others) = IsAbsent option (standing others) × AreOnce others
+AreOnce (option ∷ others) = IsAbsent option (with_options others) × AreOnce others
 
 -- The words are options in any order, each at most once, and these are given.
 pub record AreOptions (words : List (List ℕ)) (o : CheckOptions) : Type 0 where
   pub options : List CheckOption
   pub are_words : AreWordsOf options words
   pub once : AreOnce options
-  pub is : o ≡ standing options
+  pub is : o ≡ with_options options

@@ -2,7 +2,7 @@
 
 ghost use Rattle.std.specs.Prelude.{◌≡◌, ◌≤◌, ◌+◌, None, Option, option_map, IfOk};
 ghost use Rattle.der_core.specs.Counts.{last_count, GoesOn, HasRisen};
-ghost use Rattle.picky_check.specs.Opened.{IsOpened, told_rest};
+ghost use Rattle.picky_check.specs.Opened.{IsOpened, unread_rest};
 ghost use Rattle.picky_check.specs.Shelf.{Files};
 
 use crate::{Failed, Shelf, Sink};
@@ -65,7 +65,7 @@ impl<D: Opener> ReaderShelf<D> {
 impl<D: Opener> Shelf for ReaderShelf<D> {
     ghost state = { λ shelf. record {
       files = D.files shelf.opener;
-      rest = told_rest (D.files shelf.opener) (option_map D.Reader.remaining shelf.picked);
+      rest = unread_rest (D.files shelf.opener) (option_map D.Reader.remaining shelf.picked);
       given = shelf.given;
       faults = shelf.faults;
       is_quiet = ⊥;

@@ -61,13 +61,13 @@ of_parts element info algorithm value is fit a b = (
   },
 )
 
-abbrev told : Attribute → Attribute → Bool
-told a b = bytes_eq (attribute_octets a) (attribute_octets b)
+abbrev equal : Attribute → Attribute → Bool
+equal a b = bytes_eq (attribute_octets a) (attribute_octets b)
 
-told_same : (a b : Attribute) → IsTrue (told a b) ↔ (a ≡ b)
-told_same a b =
+equal_same : (a b : Attribute) → IsTrue (equal a b) ↔ (a ≡ b)
+equal_same a b =
     let decides = bytes_eq-Decides (attribute_octets a) (attribute_octets b) in
     (λ w. attributes_by_octets a b (decides.0 w), λ e. decides.1 (ap (λ (v : Attribute). attribute_octets v) e))
 
-pub same_attribute_lists : (a b : Option (List Attribute)) (t : Bool) → t ≡ option_eq (pointwise told) a b → IsTrue t ↔ (a ≡ b)
-same_attribute_lists a b t test = by_test t _ (a ≡ b) test (options_same (pointwise told) (pointwise_same told told_same) a b)
+pub same_attribute_lists : (a b : Option (List Attribute)) (t : Bool) → t ≡ option_eq (pointwise equal) a b → IsTrue t ↔ (a ≡ b)
+same_attribute_lists a b t test = by_test t _ (a ≡ b) test (options_same (pointwise equal) (pointwise_same equal equal_same) a b)

@@ -6,7 +6,7 @@ use Rattle.der_core.specs.Rules.{OrMemory, IsFirstBroken}
 use Rattle.key_core.specs.Verifying.{Judge}
 use Rattle.x509_core.specs.Chain.{IsLinkedChain, IsFirstUnlinked, last_of, lent}
 use Rattle.x509_core.specs.KeptCertificate.{KeptCertificate}
-use Rattle.x509_core.specs.Link.{IsLink, IsStandingFor, link_rules}
+use Rattle.x509_core.specs.Link.{IsLink, IsCountFor, link_rules}
 use Rattle.x509_core.specs.Rules.{RefusesCertBy}
 use Rattle.x509_core.specs.declared.error.CertError.{CertError}
 use Rattle.x509_core.specs.declared.error.CertError.TheVariants as errors
@@ -30,7 +30,7 @@ grown_chain judge w checked xs x child linked at link =
 pub grown_place : (checked : KeptCertificate) (xs : List (Bor KeptCertificate)) (x : Bor KeptCertificate) → x.now ≡ last_of checked (map lent (xs ++ x ∷ []))
 grown_place checked xs x = sym (ap (last_of checked) (map_more lent xs x) ∙ last_more checked (map lent xs) x.now)
 
-pub grown_count : (xs : List (Bor KeptCertificate)) (x : Bor KeptCertificate) (n m : ℕ) → IsStandingFor n (length (map lent xs)) → m ≡ min (n + 1) (2 ^ 16 - 1) → IsStandingFor m (length (map lent (xs ++ x ∷ [])))
+pub grown_count : (xs : List (Bor KeptCertificate)) (x : Bor KeptCertificate) (n m : ℕ) → IsCountFor n (length (map lent xs)) → m ≡ min (n + 1) (2 ^ 16 - 1) → IsCountFor m (length (map lent (xs ++ x ∷ [])))
 grown_count xs x n m so_far more =
     let long : length (map lent (xs ++ x ∷ [])) ≡ length (map lent xs) + 1 = ap length (map_more lent xs x) ∙ one_more (map lent xs) x.now in
     omega (arith, so_far, more, long)

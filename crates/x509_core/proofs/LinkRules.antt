@@ -5,7 +5,7 @@ use Rattle.key_core.specs.Verifying.{Judge}
 use Rattle.x509_types.specs.CertificateElements.{CertificateElements}
 use Rattle.x509_types.specs.ExtensionParts.{HasCa, HasPathLength}
 use Rattle.x509_core.specs.KeptCertificate.{KeptCertificate}
-use Rattle.x509_core.specs.Link.{IsDeepEnough, IsStandingFor, IsLink, IsSignedBy, IsNoAuthority, IsTooDeep, IsOutside, link_rules, link_signature_rules}
+use Rattle.x509_core.specs.Link.{IsDeepEnough, IsCountFor, IsLink, IsSignedBy, IsNoAuthority, IsTooDeep, IsOutside, link_rules, link_signature_rules}
 use Rattle.x509_core.specs.Parent.{AgreeByKeyAndName, RefusesParent}
 use Rattle.x509_core.specs.Rules.{Breaks, RefusesCertBy}
 use Rattle.x509_core.specs.Window.{IsWithinWindow}
@@ -18,12 +18,12 @@ use Rattle.x509_core.proofs.Validity.{valid_is_met}
 
 -- ---- the path length
 
-pub deep_enough : (f g : CertificateElements) (count number pathlen : ℕ) → f ≡ g → HasPathLength f pathlen → pathlen < 256 → IsStandingFor number count → number ≤ pathlen → IsDeepEnough count g
+pub deep_enough : (f g : CertificateElements) (count number pathlen : ℕ) → f ≡ g → HasPathLength f pathlen → pathlen < 256 → IsCountFor number count → number ≤ pathlen → IsDeepEnough count g
 deep_enough f g count number pathlen same has small stands fits = λ limit there.
     let one : pathlen ≡ limit = path_length_once g pathlen limit (subst (λ (x : CertificateElements). HasPathLength x pathlen) same has) there in
     omega (arith, one, small, stands, fits)
 
-pub deeper : (count number pathlen : ℕ) → pathlen < 256 → IsStandingFor number count → pathlen < number → pathlen < count
+pub deeper : (count number pathlen : ℕ) → pathlen < 256 → IsCountFor number count → pathlen < number → pathlen < count
 deeper count number pathlen small stands more = omega (arith, small, stands, more)
 
 -- ---- rules that are met

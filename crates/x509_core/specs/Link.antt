@@ -60,8 +60,8 @@ abbrev pub IsDeepEnough : ℕ → CertificateElements → Type 0
 IsDeepEnough number parent = (limit : ℕ) → HasPathLength parent limit → number ≤ limit
 
 -- A number represents a count: both are the same, or past every path length.
-abbrev pub IsStandingFor : ℕ → ℕ → Type 0
-IsStandingFor number count = min number 256 ≡ min count 256
+abbrev pub IsCountFor : ℕ → ℕ → Type 0
+IsCountFor number count = min number 256 ≡ min count 256
 
 -- The parent may have issued the child, with this number of certificates between the parent and the
 -- end of the path.

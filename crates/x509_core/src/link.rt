@@ -4,7 +4,7 @@ ghost use Rattle.std.specs.Prelude.{◌≡◌, ◌↔◌, ◌<◌, ℕ, true, Is
 ghost use Rattle.key_core.specs.SignatureAlgorithm.{NamesSignature};
 ghost use Rattle.key_core.specs.declared.signature_error.SignatureError.TheVariants as signature_errors;
 ghost use Rattle.x509_types.specs.ExtensionParts.{HasCa, HasPathLength};
-ghost use Rattle.x509_core.specs.Link.{IsBadlySignedLink, IsDeepEnough, IsLink, IsNoAuthority, IsOutside, IsSignedBy, IsStandingFor, IsTooDeep, IsToldOf, link_rules, link_signature_rules, signature_refusal};
+ghost use Rattle.x509_core.specs.Link.{IsBadlySignedLink, IsDeepEnough, IsLink, IsNoAuthority, IsOutside, IsSignedBy, IsCountFor, IsTooDeep, IsToldOf, link_rules, link_signature_rules, signature_refusal};
 ghost use Rattle.x509_core.specs.Parent.{IsInvalid};
 ghost use Rattle.x509_core.specs.Rules.{Breaks, RefusesCertBy};
 ghost use Rattle.x509_core.specs.Window.{IsWithinWindow};
@@ -35,7 +35,7 @@ impl Cert {
         window: &Window,
         scheme: &S,
     ) -> Result<(), CertError>
-        ensures { (count : ℕ) → IsStandingFor number count → MatchResult result
+        ensures { (count : ℕ) → IsCountFor number count → MatchResult result
             (λ _. IsLink (S.judge scheme.now) window.now count self.now.elements other.now.elements)
             (RefusesCertBy (link_rules (S.judge scheme.now) window.now count self.now other.now)) }
     {
@@ -105,7 +105,7 @@ impl ViewedCert<'_> {
         window: &Window,
         scheme: &S,
     ) -> Result<(), CertError>
-        ensures { (count : ℕ) → IsStandingFor number count
+        ensures { (count : ℕ) → IsCountFor number count
             → MatchResult result
             (λ _. IsLink (S.judge scheme.now) window.now count self.now.cert.now.elements
             child.now.cert.now.elements)
@@ -143,7 +143,7 @@ impl ViewedCert<'_> {
     /// Checks that no more certificates are between it and the end of the path than its path length
     /// allows (RFC 5280 4.2.1.9).
     fn expect_deep_enough(&self, alloc: Global, number: u16) -> Result<(), CertError>
-        ensures { (count : ℕ) → IsStandingFor number count → MatchResult result
+        ensures { (count : ℕ) → IsCountFor number count → MatchResult result
             (λ _. IsDeepEnough count self.now.cert.now.elements)
             (Breaks (IsTooDeep count self.now.cert.now)) }
     {

@@ -8,7 +8,7 @@ ghost use Rattle.x509_core.specs.CertType.{IsOfType};
 ghost use Rattle.x509_core.specs.Chain.{YieldsParents, IsAccepted, WasAccepted, WasRefused, AsksForMemory, GivesParent, IsLinkedChain, IsFirstUnlinked, AsksForDate, IsDated, LacksDate, chain_rules, last_of, lent, nearest};
 ghost use Rattle.x509_core.specs.Checks.{checks_at, first_checks, with_not_before, with_not_after, with_chain, with_root};
 ghost use Rattle.x509_core.specs.KeptCertificate.{KeptCertificate};
-ghost use Rattle.x509_core.specs.Link.{IsLink, IsStandingFor, link_rules};
+ghost use Rattle.x509_core.specs.Link.{IsLink, IsCountFor, link_rules};
 ghost use Rattle.x509_core.specs.Rules.{RefusesCertBy};
 ghost use Rattle.x509_core.specs.declared.cert_type.CertType.TheVariants as types;
 ghost use Rattle.x509_core.specs.declared.error.Arg.TheVariants as arguments;
@@ -342,7 +342,7 @@ fn expect_next<S: Scheme>(
     window: &Window,
     scheme: &S,
 ) -> Result<(), CertError>
-    ensures { (count : ℕ) → IsStandingFor number count
+    ensures { (count : ℕ) → IsCountFor number count
         → MatchResult result
         (λ _. IsLink (S.judge scheme.now) window.now count above.now.cert.now.elements
         (nearest checked.now.cert.now last.now).elements)

@@ -19,13 +19,13 @@ same_versions a b t test = by_test t _ (a ≡ b) test (options_same (same_octets
 pub same_ids : (a b : Option (List ℕ)) (t : Bool) → t ≡ option_eq bytes_eq a b → IsTrue t ↔ (a ≡ b)
 same_ids a b t test = by_test t _ (a ≡ b) test (options_same bytes_eq (λ (x y : List ℕ). bytes_eq-Decides x y) a b)
 
-abbrev pub told : Extension → Extension → Bool
-told a b = bytes_eq (extension_octets a) (extension_octets b)
+abbrev pub equal : Extension → Extension → Bool
+equal a b = bytes_eq (extension_octets a) (extension_octets b)
 
-pub told_same : (a b : Extension) → IsTrue (told a b) ↔ (a ≡ b)
-told_same a b =
+pub equal_same : (a b : Extension) → IsTrue (equal a b) ↔ (a ≡ b)
+equal_same a b =
     let decides = bytes_eq-Decides (extension_octets a) (extension_octets b) in
     (λ w. extensions_by_octets a b (decides.0 w), λ e. decides.1 (ap (λ (v : Extension). extension_octets v) e))
 
-pub same_extensions : (a b : Option (List Extension)) (t : Bool) → t ≡ option_eq (pointwise told) a b → IsTrue t ↔ (a ≡ b)
-same_extensions a b t test = by_test t _ (a ≡ b) test (options_same (pointwise told) (pointwise_same told told_same) a b)
+pub same_extensions : (a b : Option (List Extension)) (t : Bool) → t ≡ option_eq (pointwise equal) a b → IsTrue t ↔ (a ≡ b)
+same_extensions a b t test = by_test t _ (a ≡ b) test (options_same (pointwise equal) (pointwise_same equal equal_same) a b)

@@ -12,7 +12,7 @@ use Rattle.der_core.specs.Default.{IsDefaultFalse}
 use Rattle.asn1_types.specs.Elements.{object_identifier}
 use Rattle.der_core.specs.Default.{default_false}
 use Rattle.extension_types.specs.BasicConstraints.{basic_constraints, IsBasicConstraints}
-use Rattle.extension_types.specs.Facts.Constraints.{boolean_stands, constraints_spelled}
+use Rattle.extension_types.specs.Facts.Constraints.{true_or_not_der, constraints_spelled}
 use Rattle.extension_types.specs.declared.basic_constraints.BasicConstraints.{BasicConstraints}
 use Rattle.x509_types.specs.ExtensionView.{value_octets, IsValueIn}
 use Rattle.x509_types.specs.Extension.{IsExtension}
@@ -32,7 +32,7 @@ flag_stands : (element oid : DerElement) (critical : Bool) (octets : List ℕ) (
     → (flag ≡ default_false critical) ⊎ HasOtherFlag element oid critical octets
 flag_stands element oid critical octets [] is flagged = inl (subst (λ (b : Bool). [] ≡ default_false b) (sym flagged) refl)
 flag_stands element oid critical octets (kid ∷ []) is flagged =
-    elim (boolean_stands kid critical flagged) [
+    elim (true_or_not_der kid critical flagged) [
       | inl (same, set) ↦ inl (subst (λ (b : Bool). kid ∷ [] ≡ default_false b) (sym set) (ap (λ (k : DerElement). k ∷ []) same))
       | inr other ↦ inr (record {
         octet = flagged.0;

@@ -24,7 +24,7 @@ use Rattle.x509_types.specs.declared.attribute.kind.AttributeKind.TheVariants as
 use Rattle.x509_types.specs.declared.attribute.values.AttributeValues.{AttributeValues}
 use Rattle.x509_types.specs.declared.attribute.values.AttributeValues.TheVariants as values
 use Rattle.x509_types.specs.declared.extension.Extension.{Extension}
-use Rattle.x509_types.proofs.Same.{told, told_same}
+use Rattle.x509_types.proofs.Same.{equal, equal_same}
 
 -- ---- values of a kind are a list of the kind's own
 
@@ -96,8 +96,8 @@ same_types a b t test = lists_equal same_contents one_id a b a b t refl refl tes
 pub same_digests : (a b : List (List ℕ)) (t : Bool) → t ≡ pointwise bytes_eq a b → IsTrue t ↔ (a ≡ b)
 same_digests a b t test = lists_equal bytes_eq (λ (x y : List ℕ). bytes_eq-Decides x y) a b a b t refl refl test
 
-pub same_requests : (a b : List (List Extension)) (t : Bool) → t ≡ pointwise (pointwise told) a b → IsTrue t ↔ (a ≡ b)
-same_requests a b t test = lists_equal (pointwise told) (pointwise_same told told_same) a b a b t refl refl test
+pub same_requests : (a b : List (List Extension)) (t : Bool) → t ≡ pointwise (pointwise equal) a b → IsTrue t ↔ (a ≡ b)
+same_requests a b t test = lists_equal (pointwise equal) (pointwise_same equal equal_same) a b a b t refl refl test
 
 pub same_kept_values : (a b : List KeptElement) (t : Bool) → t ≡ pointwise (same_octets (λ (k : KeptElement). k.element)) a b → IsTrue t ↔ (a ≡ b)
 same_kept_values a b t test = lists_equal (same_octets (λ (k : KeptElement). k.element)) kept_same a b a b t refl refl test

@@ -3,13 +3,13 @@
 pub mod ExtensionKinds
 pub mod ExtensionViews
 pub mod Extensions
-pub mod ToldExtensions
+pub mod DeterminedExtensions
 pub mod Versions
 pub mod Validities
 pub mod TbsElements
 pub mod TbsCertificates
 pub mod Certificates
 pub mod AttributeKinds
-pub mod ToldRequests
+pub mod DeterminedRequests
 pub mod AttributeLists
 pub mod Attributes

@@ -34,13 +34,13 @@ fn names_and_kinds(rt: HostRuntime) -> Result<(), Fail> {
 #[test]
 fn names_in_tables(rt: HostRuntime) -> Result<(), Fail> {
     for (alg, name, _) in &ALGORITHMS {
-        assert!(rt; stands_in_a_table(rt.alloc(), *alg, name)?, "{name}");
+        assert!(rt; is_in_a_table(rt.alloc(), *alg, name)?, "{name}");
     }
     Ok(())
 }
 
 /// Whether a row with the name accepts a signature by the algorithm.
-fn stands_in_a_table(alloc: Global, alg: SigAlg, name: &str) -> Result<bool, TableError> {
+fn is_in_a_table(alloc: Global, alg: SigAlg, name: &str) -> Result<bool, TableError> {
     let text = joined(alloc, &[name, " ", KEY, " ", MSG, " ", SIG, "\n"])?;
     let table = VerdictTable::parse(alloc, text.as_bytes())?;
     let verdict = table.verify(alloc, alg, b"key", b"message", b"signature")?;

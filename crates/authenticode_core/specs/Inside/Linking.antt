@@ -4,7 +4,7 @@ use Rattle.der_core.specs.Rules.{IsFirstBroken}
 use Rattle.key_core.specs.Verifying.{Judge}
 use Rattle.x509_core.specs.Chain.{IsLinkedChain, last_of}
 use Rattle.x509_core.specs.KeptCertificate.{KeptCertificate}
-use Rattle.x509_core.specs.Link.{IsLink, IsStandingFor, link_rules}
+use Rattle.x509_core.specs.Link.{IsLink, IsCountFor, link_rules}
 use Rattle.x509_core.specs.declared.error.CertError.{CertError}
 use Rattle.x509_core.specs.declared.window.Window.{Window}
 use Rattle.x509_types.specs.CertificateElements.{CertificateElements}
@@ -19,7 +19,7 @@ pub record IsLinkedSoFar (judge : Judge) (w : Window) (bag : List CertificateEle
   pub stand : StandAt bag so_far.places below
   pub linked : IsLinkedChain judge w checked below
   pub at : unwrap_or so_far.last checked ≡ last_of checked below
-  pub counted : IsStandingFor so_far.number (length below)
+  pub counted : IsCountFor so_far.number (length below)
 
 -- The certificate with these fields isn't linked to the last of them.
 pub record IsBrokenNext (judge : Judge) (w : Window) (bag : List CertificateElements)

@@ -76,5 +76,5 @@ validity_rules judge policy f =
     IsUnbegun policy f ∷ IsUnexcused policy f ∷ IsBadlyStamped judge policy f ∷ []
 
 -- the rules for the signer's certificate once it is known and the dates are given, in order
-abbrev pub standing_rules : Judge → Policy → SignedDataElements → List (Rule AuthenticodeError)
-standing_rules judge policy f = validity_rules judge policy f ++ IsUnvouched judge policy f ∷ []
+abbrev pub valid_and_vouched_rules : Judge → Policy → SignedDataElements → List (Rule AuthenticodeError)
+valid_and_vouched_rules judge policy f = validity_rules judge policy f ++ IsUnvouched judge policy f ∷ []

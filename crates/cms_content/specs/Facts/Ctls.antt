@@ -110,20 +110,20 @@ lists_same element xs ys p q =
 
 -- ---- an element encodes at most one list of entries, whatever the proof
 
-told : CTLEntry → CTLEntry → Bool
-told a b = bytes_eq (encoding (ctl_entry a)) (encoding (ctl_entry b))
+equal : CTLEntry → CTLEntry → Bool
+equal a b = bytes_eq (encoding (ctl_entry a)) (encoding (ctl_entry b))
 
-told_same : (a b : CTLEntry) → IsTrue (told a b) ↔ (a ≡ b)
-unfolding told
-told_same a b = octets_same ctl_entry same_entry ctl_entries.formed a b
+equal_same : (a b : CTLEntry) → IsTrue (equal a b) ↔ (a ≡ b)
+unfolding equal
+equal_same a b = octets_same ctl_entry same_entry ctl_entries.formed a b
 
 test_prop : (t : Bool) → IsProp (IsTrue t)
 test_prop t = hlevel props
 
 lists_once : (element : DerElement) (a b : List CTLEntry) → ∥ IsCtl element a ∥₁ → ∥ IsCtl element b ∥₁ → a ≡ b
 lists_once element a b p q =
-    let same = pointwise_same told told_same a b in
-    same.0 (∥∥₁_elim p (test_prop (pointwise told a b)) (λ x. ∥∥₁_elim q (test_prop (pointwise told a b)) (λ y. same.1 (lists_same element a b x y))))
+    let same = pointwise_same equal equal_same a b in
+    same.0 (∥∥₁_elim p (test_prop (pointwise equal a b)) (λ x. ∥∥₁_elim q (test_prop (pointwise equal a b)) (λ y. same.1 (lists_same element a b x y))))
 
 abbrev ctl_with : (element : KeptElement) (entries : List CTLEntry) → ∥ IsCtl element.element entries ∥₁ → Ctl
 ctl_with element entries are = record { element = element; entries = entries; are = are }

@@ -23,12 +23,12 @@ pub purpose_lists : IsGrammar ArePurposes (list_element 0x30 object_identifier) 
 purpose_lists = lists 0x30 IsPurposeElement object_identifier (λ (id : ObjectIdentifier). []) (omega arith, omega arith, omega arith) refl identifiers
 
 -- the contents octets determine an OID
-told : ObjectIdentifier → ObjectIdentifier → Bool
-told a b = bytes_eq (identifier_contents a) (identifier_contents b)
+equal : ObjectIdentifier → ObjectIdentifier → Bool
+equal a b = bytes_eq (identifier_contents a) (identifier_contents b)
 
-told_same : (a b : ObjectIdentifier) → IsTrue (told a b) ↔ (a ≡ b)
-unfolding told
-told_same a b =
+equal_same : (a b : ObjectIdentifier) → IsTrue (equal a b) ↔ (a ≡ b)
+unfolding equal
+equal_same a b =
     let decides = bytes_eq-Decides (identifier_contents a) (identifier_contents b) in
     (λ t. same_oid a b (decides.0 t), λ e. decides.1 (ap identifier_contents e))
 
@@ -43,8 +43,8 @@ held_once octets a b p q =
 -- octets encode at most one list of extended key usages, whatever the proof
 lists_once : (octets : List ℕ) (a b : List ObjectIdentifier) → ∥ ArePurposesIn octets a ∥₁ → ∥ ArePurposesIn octets b ∥₁ → a ≡ b
 lists_once octets a b p q =
-    let same = pointwise_same told told_same a b in
-    same.0 (∥∥₁_elim p (test_prop (pointwise told a b)) (λ x. ∥∥₁_elim q (test_prop (pointwise told a b)) (λ y. same.1 (held_once octets a b x y))))
+    let same = pointwise_same equal equal_same a b in
+    same.0 (∥∥₁_elim p (test_prop (pointwise equal a b)) (λ x. ∥∥₁_elim q (test_prop (pointwise equal a b)) (λ y. same.1 (held_once octets a b x y))))
 
 abbrev held_with : (octets : List ℕ) (purposes : List ObjectIdentifier) → ∥ ArePurposesIn octets purposes ∥₁ → HeldPurposes
 held_with octets purposes are = record { octets = octets; purposes = purposes; are = are }

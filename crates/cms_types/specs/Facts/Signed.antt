@@ -18,12 +18,12 @@ use Rattle.cms_types.specs.SignedAttributesElement.{signed_attributes}
 use Rattle.cms_types.specs.declared.signer_info.signed_attributes.SignedAttributes.{SignedAttributes}
 
 -- the encoding determines an attribute
-told : Attribute → Attribute → Bool
-told a b = bytes_eq (attribute_octets a) (attribute_octets b)
+equal : Attribute → Attribute → Bool
+equal a b = bytes_eq (attribute_octets a) (attribute_octets b)
 
-told_same : (a b : Attribute) → IsTrue (told a b) ↔ (a ≡ b)
-unfolding told
-told_same a b =
+equal_same : (a b : Attribute) → IsTrue (equal a b) ↔ (a ≡ b)
+unfolding equal
+equal_same a b =
     let decides = bytes_eq-Decides (attribute_octets a) (attribute_octets b) in
     (λ t. attributes_by_octets a b (decides.0 t), λ e. decides.1 (ap attribute_octets e))
 
@@ -33,8 +33,8 @@ test_prop t = hlevel props
 -- an element encodes at most one list of attributes, whatever the proof
 lists_once : (element : DerElement) (a b : List Attribute) → ∥ AreAttributes element a ∥₁ → ∥ AreAttributes element b ∥₁ → a ≡ b
 lists_once element a b p q =
-    let same = pointwise_same told told_same a b in
-    same.0 (∥∥₁_elim p (test_prop (pointwise told a b)) (λ x. ∥∥₁_elim q (test_prop (pointwise told a b)) (λ y. same.1 (attribute_lists.once element a b x y))))
+    let same = pointwise_same equal equal_same a b in
+    same.0 (∥∥₁_elim p (test_prop (pointwise equal a b)) (λ x. ∥∥₁_elim q (test_prop (pointwise equal a b)) (λ y. same.1 (attribute_lists.once element a b x y))))
 
 abbrev signed_with : (element : KeptElement) (list : List Attribute) → ∥ AreAttributes element.element list ∥₁ → SignedAttributes
 signed_with element list are = record { element = element; list = list; are = are }

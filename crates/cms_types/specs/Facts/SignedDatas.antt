@@ -23,7 +23,7 @@ use Rattle.cms_types.specs.Levels.{OfOption}
 use Rattle.cms_types.specs.Facts.Choices.{certificate_choices}
 use Rattle.der_core.specs.Facts.Optional.{options_once}
 use Rattle.cms_types.specs.Facts.Options.{options_formed}
-use Rattle.cms_types.specs.Facts.SignerElements.{IsToldData, same_data, data_formed}
+use Rattle.cms_types.specs.Facts.SignerElements.{IsDeterminedData, same_data, data_formed}
 use Rattle.cms_types.specs.Facts.SignerInfos.{signer_infos}
 use Rattle.cms_types.specs.Facts.Versions.{versions, versions_once}
 use Rattle.cms_types.specs.declared.signed_data.SignedData.{SignedData}
@@ -35,8 +35,8 @@ list_tags : {X : Type 0} (tag : ℕ) (written : X → DerElement) (a : Option (L
 list_tags tag written None = tt
 list_tags tag written (Some a) = refl
 
-pub told_value : (d : SignedData) → IsToldData (signed_data_elements d)
-told_value d = record { certificates = list_tags 0xA0 certificate_choice d.certificates; crls = list_tags 0xA1 element_of_kept d.crls; signers_infos = refl }
+pub determined_value : (d : SignedData) → IsDeterminedData (signed_data_elements d)
+determined_value d = record { certificates = list_tags 0xA0 certificate_choice d.certificates; crls = list_tags 0xA1 element_of_kept d.crls; signers_infos = refl }
 
 same_algorithms : (a b : List AlgorithmIdentifier) → list_element 0x31 algorithm_identifier a ≡ list_element 0x31 algorithm_identifier b → a ≡ b
 same_algorithms a b e = list_once 0x31 algorithm_identifier (λ x y e. algorithms.once (algorithm_identifier x) x y refl e) a b e
@@ -69,7 +69,7 @@ data_once a b same =
     }
 
 datas_once : (a b : SignedData) → signed_data a ≡ signed_data b → a ≡ b
-datas_once a b e = data_once a b (same_data (signed_data_elements a) (signed_data_elements b) (told_value a) (told_value b) e)
+datas_once a b e = data_once a b (same_data (signed_data_elements a) (signed_data_elements b) (determined_value a) (determined_value b) e)
 
 certificates_formed : (values : List CertificateChoices) → IsWellFormed (list_element 0xA0 certificate_choice values)
 certificates_formed values = ((omega arith, omega arith, omega arith), refl, each_formed certificate_choice certificate_choices.formed values)

@@ -33,7 +33,7 @@ options_split tag a b xs ys p q f g e =
 -- ---- signers
 
 -- The optional fields have their tags.
-pub record IsTold (f : SignerElements) : Type 0 where
+pub record IsDetermined (f : SignerElements) : Type 0 where
   pub signed_attrs : OfOption (λ e. tag_of e ≡ 0xA0) f.signed_attrs
   pub signature_algorithm : tag_of f.signature_algorithm ≢ 0xA0
 
@@ -44,8 +44,8 @@ signed_tagged (Some x) fits = ap tag_of fits.1.holds
 pub algorithm_tag : (x : DerElement) → Fits IsAlgorithm x → tag_of x ≢ 0xA0
 algorithm_tag x fit = λ e. let here : tag_of x ≡ 0x30 = ap tag_of fit.1 in omega (arith, e, here)
 
-pub told_fields : (f : SignerElements) → AreSignerFields f → IsTold f
-told_fields f fields = record { signed_attrs = signed_tagged f.signed_attrs fields.signed_attrs; signature_algorithm = algorithm_tag f.signature_algorithm fields.signature_algorithm }
+pub determined_fields : (f : SignerElements) → AreSignerFields f → IsDetermined f
+determined_fields f fields = record { signed_attrs = signed_tagged f.signed_attrs fields.signed_attrs; signature_algorithm = algorithm_tag f.signature_algorithm fields.signature_algorithm }
 
 abbrev pub signer_tail : SignerElements → List DerElement
 signer_tail f = f.signature_algorithm ∷ f.signature ∷ option_to_list f.unsigned_attrs
@@ -54,14 +54,14 @@ abbrev pub signer_kids : SignerElements → List DerElement
 signer_kids f = f.version ∷ f.sid ∷ f.digest_algorithm ∷ (option_to_list f.signed_attrs ++ signer_tail f)
 
 -- the element of a signer determines its fields
-pub same_signer : (f g : SignerElements) → IsTold f → IsTold g → signer_of f ≡ signer_of g → f ≡ g
-same_signer f g told told' e =
+pub same_signer : (f g : SignerElements) → IsDetermined f → IsDetermined g → signer_of f ≡ signer_of g → f ≡ g
+same_signer f g fixed fixed' e =
     let kids : signer_kids f ≡ signer_kids g = same_fields (signer_kids f) (signer_kids g) e in
     let version : f.version ≡ g.version = cc in
     let sid : f.sid ≡ g.sid = cc in
     let digest_algorithm : f.digest_algorithm ≡ g.digest_algorithm = cc in
     let others : option_to_list f.signed_attrs ++ signer_tail f ≡ option_to_list g.signed_attrs ++ signer_tail g = cc in
-    let parts = options_split 0xA0 f.signed_attrs g.signed_attrs (signer_tail f) (signer_tail g) told.signed_attrs told'.signed_attrs (λ none. told.signature_algorithm) (λ none. told'.signature_algorithm) others in
+    let parts = options_split 0xA0 f.signed_attrs g.signed_attrs (signer_tail f) (signer_tail g) fixed.signed_attrs fixed'.signed_attrs (λ none. fixed.signature_algorithm) (λ none. fixed'.signature_algorithm) others in
     let tails : signer_tail f ≡ signer_tail g = parts.1 in
     let signature_algorithm : f.signature_algorithm ≡ g.signature_algorithm = cc in
     let signature : f.signature ≡ g.signature = cc in
@@ -102,7 +102,7 @@ signer_formed f formed =
 
 -- ---- signed data
 
-pub record IsToldData (f : SignedDataElements) : Type 0 where
+pub record IsDeterminedData (f : SignedDataElements) : Type 0 where
   pub certificates : OfOption (λ e. tag_of e ≡ 0xA0) f.certificates
   pub crls : OfOption (λ e. tag_of e ≡ 0xA1) f.crls
   pub signers_infos : tag_of f.signers_infos ≡ 0x31
@@ -111,8 +111,8 @@ constructed_tag : (tag : ℕ) (a : Option DerElement) → OfOption (IsConstructe
 constructed_tag tag None is = tt
 constructed_tag tag (Some x) is = ap tag_of is.1
 
-pub told_data : (f : SignedDataElements) → AreSignedDataFields f → IsToldData f
-told_data f fields = record {
+pub determined_data : (f : SignedDataElements) → AreSignedDataFields f → IsDeterminedData f
+determined_data f fields = record {
   certificates = constructed_tag 0xA0 f.certificates fields.certificates;
   crls = constructed_tag 0xA1 f.crls fields.crls;
   signers_infos = ap tag_of fields.signers_infos.1;
@@ -133,17 +133,17 @@ pub no_crls : (signers : DerElement) → tag_of signers ≡ 0x31 → BeginsOther
 no_crls signers last = λ e. omega (arith, e, last)
 
 -- the element of signed data determines its fields
-pub same_data : (f g : SignedDataElements) → IsToldData f → IsToldData g → signed_data_of f ≡ signed_data_of g → f ≡ g
-same_data f g told told' e =
+pub same_data : (f g : SignedDataElements) → IsDeterminedData f → IsDeterminedData g → signed_data_of f ≡ signed_data_of g → f ≡ g
+same_data f g fixed fixed' e =
     let kids : data_kids f ≡ data_kids g = same_fields (data_kids f) (data_kids g) e in
     let version : f.version ≡ g.version = cc in
     let digest_algorithms : f.digest_algorithms ≡ g.digest_algorithms = cc in
     let content_info : f.content_info ≡ g.content_info = cc in
     let others : option_to_list f.certificates ++ data_tail f ≡ option_to_list g.certificates ++ data_tail g = cc in
-    let certificates = options_split 0xA0 f.certificates g.certificates (data_tail f) (data_tail g) told.certificates told'.certificates
-    (λ none. no_certificates f.crls f.signers_infos told.crls told.signers_infos) (λ none. no_certificates g.crls g.signers_infos told'.crls told'.signers_infos) others in
-    let crls = options_split 0xA1 f.crls g.crls (f.signers_infos ∷ []) (g.signers_infos ∷ []) told.crls told'.crls
-    (λ none. no_crls f.signers_infos told.signers_infos) (λ none. no_crls g.signers_infos told'.signers_infos) certificates.1 in
+    let certificates = options_split 0xA0 f.certificates g.certificates (data_tail f) (data_tail g) fixed.certificates fixed'.certificates
+    (λ none. no_certificates f.crls f.signers_infos fixed.crls fixed.signers_infos) (λ none. no_certificates g.crls g.signers_infos fixed'.crls fixed'.signers_infos) others in
+    let crls = options_split 0xA1 f.crls g.crls (f.signers_infos ∷ []) (g.signers_infos ∷ []) fixed.crls fixed'.crls
+    (λ none. no_crls f.signers_infos fixed.signers_infos) (λ none. no_crls g.signers_infos fixed'.signers_infos) certificates.1 in
     let tails : f.signers_infos ∷ [] ≡ g.signers_infos ∷ [] = crls.1 in
     let signers_infos : f.signers_infos ≡ g.signers_infos = cc in
     λ i. record {

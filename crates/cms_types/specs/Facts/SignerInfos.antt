@@ -19,7 +19,7 @@ use Rattle.cms_types.specs.Levels.{OfOption}
 use Rattle.cms_types.specs.SignerInfo.{signer_elements, signer_info}
 use Rattle.cms_types.specs.UnsignedAttribute.{unsigned_attribute}
 use Rattle.cms_types.specs.Facts.Signed.{all_signed_attributes}
-use Rattle.cms_types.specs.Facts.SignerElements.{IsTold, same_signer, signer_formed}
+use Rattle.cms_types.specs.Facts.SignerElements.{IsDetermined, same_signer, signer_formed}
 use Rattle.cms_types.specs.Facts.SignerIdentifiers.{signer_identifiers}
 use Rattle.cms_types.specs.Facts.UnsignedAttributes.{unsigned_attributes}
 use Rattle.cms_types.specs.Facts.Versions.{versions, versions_once}
@@ -40,8 +40,8 @@ signed_tags : (a : Option SignedAttributes) → OfOption (λ e. tag_of e ≡ 0xA
 signed_tags None = tt
 signed_tags (Some a) = signed_tag a
 
-pub told_signer : (s : SignerInfo) → IsTold (signer_elements s)
-told_signer s = record { signed_attrs = signed_tags s.signed_attrs; signature_algorithm = λ e. omega (arith, e) }
+pub determined_signer : (s : SignerInfo) → IsDetermined (signer_elements s)
+determined_signer s = record { signed_attrs = signed_tags s.signed_attrs; signature_algorithm = λ e. omega (arith, e) }
 
 pub same_unsigned : (a b : List UnsignedAttribute) → list_element 0xA1 unsigned_attribute a ≡ list_element 0xA1 unsigned_attribute b → a ≡ b
 same_unsigned a b e = list_once 0xA1 unsigned_attribute (λ x y e. unsigned_attributes.once (unsigned_attribute x) x y refl e) a b e
@@ -67,7 +67,7 @@ signer_once a b same =
     }
 
 infos_once : (a b : SignerInfo) → signer_info a ≡ signer_info b → a ≡ b
-infos_once a b e = signer_once a b (same_signer (signer_elements a) (signer_elements b) (told_signer a) (told_signer b) e)
+infos_once a b e = signer_once a b (same_signer (signer_elements a) (signer_elements b) (determined_signer a) (determined_signer b) e)
 
 list_formed : (list : List UnsignedAttribute) → IsWellFormed (list_element 0xA1 unsigned_attribute list)
 list_formed list = ((omega arith, omega arith, omega arith), refl, each_formed unsigned_attribute unsigned_attributes.formed list)

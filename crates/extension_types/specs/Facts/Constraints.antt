@@ -147,8 +147,8 @@ constraints_der b = given_der b.ca b.pathlen
 -- ---- other encodings
 
 -- a BOOLEAN is the one that is written, or another octet than FF
-pub boolean_stands : (kid : DerElement) (b : Bool) (is : IsBoolean kid b) → (kid ≡ boolean true) × (b ≡ true) ⊎ (is.0 ≢ 0xFF)
-boolean_stands kid b is =
+pub true_or_not_der : (kid : DerElement) (b : Bool) (is : IsBoolean kid b) → (kid ≡ boolean true) × (b ≡ true) ⊎ (is.0 ≢ 0xFF)
+true_or_not_der kid b is =
     elim (cases_eq is.0 0xFF) [
       | inl ff ↦ inl (is.1 ∙ ap (λ (o : ℕ). Primitive 0x01 (o ∷ [])) ff, is.2 ∙ ap (λ (o : ℕ). not (o == 0)) ff)
       | inr other ↦ inr other
@@ -174,7 +174,7 @@ flag_spelled element b None flag given is flagged =
     inl (is ∙ ap (λ (f : List DerElement). sequence (f ++ optional_integer b.pathlen)) (flagged ∙ ap optional_boolean (sym given)))
 flag_spelled element b (Some c) flag given is (kid, one, flagged) =
     let are : element ≡ sequence (kid ∷ optional_integer b.pathlen) = is ∙ ap (λ (f : List DerElement). sequence (f ++ optional_integer b.pathlen)) one in
-    elim (boolean_stands kid c flagged) [
+    elim (true_or_not_der kid c flagged) [
       | inl (same, set) ↦ inl (are ∙ ap (λ (k : DerElement). sequence (k ∷ optional_integer b.pathlen)) (same ∙ ap boolean (sym set))
           ∙ ap (λ (f : Option Bool). sequence (optional_boolean f ++ optional_integer b.pathlen)) (sym given))
       | inr other ↦ octet_spelled element flagged.0 b c given flagged.2 other (are ∙ ap (λ (k : DerElement). sequence (k ∷ optional_integer b.pathlen)) flagged.1)

@@ -60,12 +60,12 @@ kind_of oid =
     else (if names_kind kinds.Ec oid then kinds.Ec
     else (if names_kind kinds.Ed oid then kinds.Ed else kinds.Mldsa))
 
-told : (k : KeyKind) (oid : List ℕ) → IsTrue (names_kind k oid) → kind_of oid ≡ k
-told kinds.Rsa oid named = named_rsa (λ o. kind_of o ≡ kinds.Rsa) refl oid named
-told kinds.Ec oid named = named_ec (λ o. kind_of o ≡ kinds.Ec) refl oid named
-told kinds.Ed oid named = named_ed (λ o. kind_of o ≡ kinds.Ed) refl refl refl refl oid named
-told kinds.Mldsa oid named = named_mldsa (λ o. kind_of o ≡ kinds.Mldsa) refl refl refl oid named
+kind_named : (k : KeyKind) (oid : List ℕ) → IsTrue (names_kind k oid) → kind_of oid ≡ k
+kind_named kinds.Rsa oid named = named_rsa (λ o. kind_of o ≡ kinds.Rsa) refl oid named
+kind_named kinds.Ec oid named = named_ec (λ o. kind_of o ≡ kinds.Ec) refl oid named
+kind_named kinds.Ed oid named = named_ed (λ o. kind_of o ≡ kinds.Ed) refl refl refl refl oid named
+kind_named kinds.Mldsa oid named = named_mldsa (λ o. kind_of o ≡ kinds.Mldsa) refl refl refl oid named
 
 -- an OID identifies one kind
 pub one_kind : (k l : KeyKind) (oid : List ℕ) → IsTrue (names_kind k oid) → IsTrue (names_kind l oid) → k ≡ l
-one_kind k l oid p q = sym (told k oid p) ∙ told l oid q
+one_kind k l oid p q = sym (kind_named k oid p) ∙ kind_named l oid q

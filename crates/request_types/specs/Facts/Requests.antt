@@ -26,8 +26,8 @@ use Rattle.request_types.specs.CertificationRequest.{IsRequest, request, inner_o
 use Rattle.x509_types.specs.Facts.Attributes.{attribute_lists}
 use Rattle.x509_types.specs.Facts.Certificates.{same_three}
 use Rattle.der_core.specs.Facts.Optional.{option_once, option_bounded, option_spelled, option_formed, kept_once, IsFormedOption}
-use Rattle.request_types.specs.Facts.ToldAttributes.{attribute_options_told, small_asked_of}
-use Rattle.x509_types.specs.Facts.ToldExtensions.{split_before}
+use Rattle.request_types.specs.Facts.DeterminedAttributes.{attribute_options_determined, small_asked_of}
+use Rattle.x509_types.specs.Facts.DeterminedExtensions.{split_before}
 use Rattle.request_types.specs.declared.request_info.CertificationRequestInfo.{CertificationRequestInfo}
 use Rattle.request_types.specs.declared.request.CertificationRequest.{CertificationRequest}
 
@@ -91,15 +91,15 @@ request_infos = record {
   formed = request_infos_formed;
 }
 
-request_infos_told : (a b : CertificationRequestInfo) → asked_of a.attributes ≡ asked_of b.attributes → request_info a ≡ request_info b → a ≡ b
-request_infos_told a b asked e =
+request_infos_determined : (a b : CertificationRequestInfo) → asked_of a.attributes ≡ asked_of b.attributes → request_info a ≡ request_info b → a ≡ b
+request_infos_determined a b asked e =
     let same = request_fields (name a.subject) (public_key_info a.subject_public_key_info) (name b.subject) (public_key_info b.subject_public_key_info) (option_map attribute_list a.attributes) (option_map attribute_list b.attributes) e in
-    same_request_info a b (same_name a b same.0) (infos_once a.subject_public_key_info b.subject_public_key_info same.1) (attribute_options_told a.attributes b.attributes asked same.2)
+    same_request_info a b (same_name a b same.0) (infos_once a.subject_public_key_info b.subject_public_key_info same.1) (attribute_options_determined a.attributes b.attributes asked same.2)
 
 pub request_infos_by_octets : (a b : CertificationRequestInfo) → request_info_octets a ≡ request_info_octets b → a ≡ b
 request_infos_by_octets a b e =
     let parts = split_before 0x30 (omega arith) (asked_of a.attributes) (asked_of b.attributes) (encoding (request_info a)) (encoding (request_info b)) _ _ refl refl (small_asked_of a.attributes) (small_asked_of b.attributes) e in
-    request_infos_told a b parts.0 (formed_encoding_once (request_info a) (request_info b) (request_infos_formed a) (request_infos_formed b) parts.1)
+    request_infos_determined a b parts.0 (formed_encoding_once (request_info a) (request_info b) (request_infos_formed a) (request_infos_formed b) parts.1)
 
 -- ---- with their signatures
 
@@ -118,10 +118,10 @@ requests_once element a b p q =
     same_request a b (request_infos.once q.info a.certification_request_info b.certification_request_info (subst (λ (e : DerElement). IsRequestInfo e a.certification_request_info) same.0 p.spelled) q.spelled)
     (same_algorithm a.signature_algorithm b.signature_algorithm same.1) (same_bits a.signature b.signature same.2)
 
-requests_told : (a b : CertificationRequest) → asked_of a.certification_request_info.attributes ≡ asked_of b.certification_request_info.attributes → request a ≡ request b → a ≡ b
-requests_told a b asked e =
+requests_determined : (a b : CertificationRequest) → asked_of a.certification_request_info.attributes ≡ asked_of b.certification_request_info.attributes → request a ≡ request b → a ≡ b
+requests_determined a b asked e =
     let same = same_three (request_info a.certification_request_info) (algorithm_identifier a.signature_algorithm) (bit_string a.signature) (request_info b.certification_request_info) (algorithm_identifier b.signature_algorithm) (bit_string b.signature) e in
-    same_request a b (request_infos_told a.certification_request_info b.certification_request_info asked same.0) (same_algorithm a.signature_algorithm b.signature_algorithm same.1) (same_bits a.signature b.signature same.2)
+    same_request a b (request_infos_determined a.certification_request_info b.certification_request_info asked same.0) (same_algorithm a.signature_algorithm b.signature_algorithm same.1) (same_bits a.signature b.signature same.2)
 
 pub requests_formed : (r : CertificationRequest) → IsWellFormed (request r)
 requests_formed r = ((omega arith, omega arith, omega arith), refl, (request_infos.formed r.certification_request_info, (algorithms.formed r.signature_algorithm, (bit_strings.formed r.signature, tt))))
@@ -139,4 +139,4 @@ requests_by_octets a b e =
     let x = a.certification_request_info.attributes in
     let y = b.certification_request_info.attributes in
     let parts = split_before 0x30 (omega arith) (asked_of x) (asked_of y) (encoding (request a)) (encoding (request b)) _ _ refl refl (small_asked_of x) (small_asked_of y) e in
-    requests_told a b parts.0 (formed_encoding_once (request a) (request b) (requests_formed a) (requests_formed b) parts.1)
+    requests_determined a b parts.0 (formed_encoding_once (request a) (request b) (requests_formed a) (requests_formed b) parts.1)

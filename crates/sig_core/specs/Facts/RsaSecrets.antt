@@ -36,13 +36,13 @@ parts_again tag contents rest short =
     rw (regrouped, length_again Truncated (length contents) (contents ++ rest) short, take_at contents rest (length contents) refl, drop_at contents rest (length contents) refl) refl
 
 -- they are determined by the octets
-parts_told : (s t : ℕ) (left right : List ℕ) → left ≡ right → (a : Begins s left) (b : Begins t right) → (a.contents ≡ b.contents) × (a.rest ≡ b.rest)
-parts_told s t left right e a b =
+parts_determined : (s t : ℕ) (left right : List ℕ) → left ≡ right → (a : Begins s left) (b : Begins t right) → (a.contents ≡ b.contents) × (a.rest ≡ b.rest)
+parts_determined s t left right e a b =
     let same = sym (parts_again s a.contents a.rest a.short) ∙ ap parts_of (sym a.parts ∙ e ∙ b.parts) ∙ parts_again t b.contents b.rest b.short in
     (ap (λ (p : List ℕ × List ℕ). p.0) same, ap (λ (p : List ℕ × List ℕ). p.1) same)
 
 same_parts : (tag : ℕ) (octets : List ℕ) (a b : Begins tag octets) → (a.contents ≡ b.contents) × (a.rest ≡ b.rest)
-same_parts tag octets a b = parts_told tag tag octets octets refl a b
+same_parts tag octets a b = parts_determined tag tag octets octets refl a b
 
 abbrev begins_so : ℕ → List ℕ → Bool
 begins_so tag octets =
@@ -180,7 +180,7 @@ with_version secret b none i true e = inl (made secret b none i ((bytes_eq-Decid
 with_version secret b none i false e =
     inr (λ s.
     let same = (same_parts 0x30 secret b (begun secret s)).0 in
-    let version : i.0.contents ≡ 0 ∷ [] = (parts_told 2 2 b.contents (begun secret s).contents same i.0 (held secret s).0).0 in
+    let version : i.0.contents ≡ 0 ∷ [] = (parts_determined 2 2 b.contents (begun secret s).contents same i.0 (held secret s).0).0 in
     let both : true ≡ false = sym ((bytes_eq-Decides i.0.contents (0 ∷ [])).1 version) ∙ e in
     cc)
 

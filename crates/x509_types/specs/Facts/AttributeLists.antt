@@ -21,8 +21,8 @@ use Rattle.x509_types.specs.AttributeKind.{attribute_number}
 use Rattle.x509_types.specs.AttributeValues.{kind_of_values, attribute_values, AreAttributeValues, inner_values, asked_kinds, values_octets}
 use Rattle.x509_types.specs.Facts.AttributeKinds.{attribute_kinds_by_number}
 use Rattle.x509_types.specs.Facts.TbsCertificates.{extension_lists}
-use Rattle.x509_types.specs.Facts.ToldExtensions.{AreSmall, split_before}
-use Rattle.x509_types.specs.Facts.ToldRequests.{requests_told, small_requests}
+use Rattle.x509_types.specs.Facts.DeterminedExtensions.{AreSmall, split_before}
+use Rattle.x509_types.specs.Facts.DeterminedRequests.{requests_determined, small_requests}
 use Rattle.x509_types.specs.declared.attribute.values.AttributeValues.{AttributeValues}
 use Rattle.x509_types.specs.declared.attribute.values.AttributeValues.TheVariants as values
 
@@ -85,12 +85,12 @@ values_formed (values.Raw x) = kept_sets.formed x
 same_digest : (a b : List ℕ) → octet_string a ≡ octet_string b → a ≡ b
 same_digest a b e = cc
 
-pub values_told : (a b : AttributeValues) → kind_of_values a ≡ kind_of_values b → asked_kinds a ≡ asked_kinds b → attribute_values a ≡ attribute_values b → a ≡ b
-values_told (values.ContentType x) (values.ContentType y) kind asked e = ap values.ContentType (list_once 0x31 object_identifier same_identifier x y e)
-values_told (values.MessageDigest x) (values.MessageDigest y) kind asked e = ap values.MessageDigest (list_once 0x31 octet_string same_digest x y e)
-values_told (values.Extensions x) (values.Extensions y) kind asked e = ap values.Extensions (requests_told x y asked e)
-values_told (values.Raw x) (values.Raw y) kind asked e = ap values.Raw (list_once 0x31 kept_element same_kept x y e)
-values_told a b kind asked e = absurd cc
+pub values_determined : (a b : AttributeValues) → kind_of_values a ≡ kind_of_values b → asked_kinds a ≡ asked_kinds b → attribute_values a ≡ attribute_values b → a ≡ b
+values_determined (values.ContentType x) (values.ContentType y) kind asked e = ap values.ContentType (list_once 0x31 object_identifier same_identifier x y e)
+values_determined (values.MessageDigest x) (values.MessageDigest y) kind asked e = ap values.MessageDigest (list_once 0x31 octet_string same_digest x y e)
+values_determined (values.Extensions x) (values.Extensions y) kind asked e = ap values.Extensions (requests_determined x y asked e)
+values_determined (values.Raw x) (values.Raw y) kind asked e = ap values.Raw (list_once 0x31 kept_element same_kept x y e)
+values_determined a b kind asked e = absurd cc
 
 pub small_asked : (vs : AttributeValues) → AreSmall (asked_kinds vs)
 small_asked (values.ContentType x) = tt
@@ -109,5 +109,5 @@ values_by_octets a b e =
     let numbers : attribute_number (kind_of_values a) ≡ attribute_number (kind_of_values b) = cc in
     let others : asked_kinds a ++ encoding (attribute_values a) ≡ asked_kinds b ++ encoding (attribute_values b) = cc in
     let parts = split_before 0x31 (omega arith) (asked_kinds a) (asked_kinds b) (encoding (attribute_values a)) (encoding (attribute_values b)) (begins a).0 (begins b).0 (begins a).1 (begins b).1 (small_asked a) (small_asked b) others in
-    values_told a b (attribute_kinds_by_number (kind_of_values a) (kind_of_values b) numbers) parts.0
+    values_determined a b (attribute_kinds_by_number (kind_of_values a) (kind_of_values b) numbers) parts.0
     (formed_encoding_once (attribute_values a) (attribute_values b) (values_formed a) (values_formed b) parts.1)

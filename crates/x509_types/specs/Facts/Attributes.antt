@@ -14,8 +14,8 @@ use Rattle.x509_types.specs.AttributeKind.{named_attribute}
 use Rattle.x509_types.specs.AttributeValues.{kind_of_values, attribute_values, AreAttributeValues, inner_values, asked_kinds}
 use Rattle.x509_types.specs.Attribute.{attribute, attribute_list, attribute_octets, inner_attributes, AreAttributes, IsAttribute}
 use Rattle.x509_types.specs.Facts.AttributeKinds.{same_attribute_kinds}
-use Rattle.x509_types.specs.Facts.AttributeLists.{values_once, values_bounded, values_spelled, values_formed, values_told, small_asked}
-use Rattle.x509_types.specs.Facts.ToldExtensions.{split_before}
+use Rattle.x509_types.specs.Facts.AttributeLists.{values_once, values_bounded, values_spelled, values_formed, values_determined, small_asked}
+use Rattle.x509_types.specs.Facts.DeterminedExtensions.{split_before}
 use Rattle.x509_types.specs.declared.attribute.Attribute.{Attribute}
 use Rattle.x509_types.specs.declared.attribute.values.AttributeValues.{AttributeValues}
 
@@ -43,11 +43,11 @@ attributes_once element a b p q =
     let ty = same_identifier a.ty b.ty same.0 in
     same_attribute a b ty (values_once q.values a.value b.value (same_kind a b ty) (subst (λ (v : DerElement). AreAttributeValues v a.value) same.1 p.spelled) q.spelled)
 
-pub attributes_told : (a b : Attribute) → asked_kinds a.value ≡ asked_kinds b.value → attribute a ≡ attribute b → a ≡ b
-attributes_told a b asked e =
+pub attributes_determined : (a b : Attribute) → asked_kinds a.value ≡ asked_kinds b.value → attribute a ≡ attribute b → a ≡ b
+attributes_determined a b asked e =
     let same = same_two (object_identifier a.ty) (attribute_values a.value) (object_identifier b.ty) (attribute_values b.value) e in
     let ty = same_identifier a.ty b.ty same.0 in
-    same_attribute a b ty (values_told a.value b.value (same_kind a b ty) asked same.1)
+    same_attribute a b ty (values_determined a.value b.value (same_kind a b ty) asked same.1)
 
 pub attributes_formed : (a : Attribute) → IsWellFormed (attribute a)
 attributes_formed a = ((omega arith, omega arith, omega arith), refl, (identifiers.formed a.ty, (values_formed a.value, tt)))
@@ -67,4 +67,4 @@ attribute_lists = lists 0xA0 IsAttribute attribute (λ (a : Attribute). inner_va
 pub attributes_by_octets : (a b : Attribute) → attribute_octets a ≡ attribute_octets b → a ≡ b
 attributes_by_octets a b e =
     let parts = split_before 0x30 (omega arith) (asked_kinds a.value) (asked_kinds b.value) (encoding (attribute a)) (encoding (attribute b)) _ _ refl refl (small_asked a.value) (small_asked b.value) e in
-    attributes_told a b parts.0 (formed_encoding_once (attribute a) (attribute b) (attributes_formed a) (attributes_formed b) parts.1)
+    attributes_determined a b parts.0 (formed_encoding_once (attribute a) (attribute b) (attributes_formed a) (attributes_formed b) parts.1)

@@ -18,8 +18,8 @@ use Rattle.x509_types.specs.TbsCertificate.{IsTbsCertificate, tbs_certificate}
 use Rattle.x509_types.specs.CertificateElements.{CertificateElements}
 use Rattle.x509_types.specs.Extension.{value_kinds}
 use Rattle.x509_types.specs.Certificate.{IsCertificate, certificate, certificate_octets, inner_certificate}
-use Rattle.x509_types.specs.Facts.ToldExtensions.{kinds_and_octets}
-use Rattle.x509_types.specs.Facts.TbsCertificates.{tbs_certificates, tbs_told}
+use Rattle.x509_types.specs.Facts.DeterminedExtensions.{kinds_and_octets}
+use Rattle.x509_types.specs.Facts.TbsCertificates.{tbs_certificates, tbs_determined}
 use Rattle.x509_types.specs.declared.certificate.Certificate.{Certificate}
 
 same_algorithm : (a b : AlgorithmIdentifier) → algorithm_identifier a ≡ algorithm_identifier b → a ≡ b
@@ -82,7 +82,7 @@ certificates_told a b kinds e =
     (algorithm_identifier a.signature_algorithm) (bit_string a.signature_value)
     (tbs_certificate b.tbs_certificate) (algorithm_identifier b.signature_algorithm)
     (bit_string b.signature_value) e in
-    same_certificate a b (tbs_told a.tbs_certificate b.tbs_certificate kinds same.0)
+    same_certificate a b (tbs_determined a.tbs_certificate b.tbs_certificate kinds same.0)
     (same_algorithm a.signature_algorithm b.signature_algorithm same.1)
     (same_bits a.signature_value b.signature_value same.2)
 

@@ -67,8 +67,8 @@ pub written_fields : (e : Extension) → IsExtensionOf (extension e) (object_ide
 written_fields e = record { flag = default_false e.critical; flagged = default_is e.critical; is = refl }
 
 -- extensions with one element and values of one kind are the same
-pub extensions_told : (a b : Extension) → kind_of_view a.extn_value ≡ kind_of_view b.extn_value → extension a ≡ extension b → a ≡ b
-extensions_told a b kind e =
+pub extensions_determined : (a b : Extension) → kind_of_view a.extn_value ≡ kind_of_view b.extn_value → extension a ≡ extension b → a ≡ b
+extensions_determined a b kind e =
     let fields = fields_once (extension b) (object_identifier a.extn_id) (object_identifier b.extn_id) a.critical b.critical (value_octets a.extn_value) (value_octets b.extn_value)
     (subst (λ (x : DerElement). IsExtensionOf x (object_identifier a.extn_id) a.critical (value_octets a.extn_value)) e (written_fields a)) (written_fields b) in
     same_extension a b (same_identifier a.extn_id b.extn_id fields.0) fields.1 (values_by_octets a.extn_value b.extn_value kind fields.2)
@@ -92,7 +92,7 @@ pub extensions_by_octets : (a b : Extension) → extension_octets a ≡ extensio
 extensions_by_octets a b e =
     let numbers : extension_kind_number (kind_of_view a.extn_value) ≡ extension_kind_number (kind_of_view b.extn_value) = cc in
     let octets : encoding (extension a) ≡ encoding (extension b) = cc in
-    extensions_told a b (kinds_by_number (kind_of_view a.extn_value)
+    extensions_determined a b (kinds_by_number (kind_of_view a.extn_value)
     (kind_of_view b.extn_value) numbers) (formed_encoding_once (extension a) (extension b)
     (extensions_formed a) (extensions_formed b) octets)
 

@@ -24,7 +24,7 @@ use Rattle.der_core.specs.Optional.{SpellsOption, inner_option}
 use Rattle.x509_types.specs.TbsElements.{TbsElements}
 use Rattle.x509_types.specs.TbsCertificate.{IsVersion, IsExtensions, extensions, inner_extensions, AreTbsFields, IsTbsCertificate, tbs_elements, tbs_certificate, tbs_octets, inner_tbs}
 use Rattle.x509_types.specs.Facts.Extensions.{all_extensions}
-use Rattle.x509_types.specs.Facts.ToldExtensions.{options_told, kinds_and_octets}
+use Rattle.x509_types.specs.Facts.DeterminedExtensions.{options_determined, kinds_and_octets}
 use Rattle.der_core.specs.Facts.Optional.{option_once, option_bounded, option_spelled, options_once, option_formed}
 use Rattle.x509_types.specs.Facts.TbsElements.{same_elements, elements_formed}
 use Rattle.x509_types.specs.Facts.Versions.{versions, versions_once}
@@ -118,8 +118,8 @@ tbs_spelled tbs der =
     }
 
 -- values whose extension values have the same kinds are determined by their elements
-pub tbs_told : (a b : TbsCertificate) → value_kinds a.extensions ≡ value_kinds b.extensions → tbs_certificate a ≡ tbs_certificate b → a ≡ b
-tbs_told a b kinds e =
+pub tbs_determined : (a b : TbsCertificate) → value_kinds a.extensions ≡ value_kinds b.extensions → tbs_certificate a ≡ tbs_certificate b → a ≡ b
+tbs_determined a b kinds e =
     let same = same_elements (tbs_elements a) (tbs_elements b) e in
     same_tbs a b (record {
       version = options_once version versions_once a.version b.version (ap (λ (f : TbsElements). f.version) same);
@@ -131,7 +131,7 @@ tbs_told a b kinds e =
       key = infos_once a.subject_public_key_info b.subject_public_key_info (ap (λ (f : TbsElements). f.subject_public_key_info) same);
       issuer_unique_id = ap (λ (f : TbsElements). f.issuer_unique_id) same;
       subject_unique_id = ap (λ (f : TbsElements). f.subject_unique_id) same;
-      extensions = options_told a.extensions b.extensions kinds (ap (λ (f : TbsElements). f.extensions) same);
+      extensions = options_determined a.extensions b.extensions kinds (ap (λ (f : TbsElements). f.extensions) same);
     })
 
 pub tbs_formed : (tbs : TbsCertificate) → IsWellFormed (tbs_certificate tbs)
@@ -157,4 +157,4 @@ tbs_certificates = record {
 pub tbs_by_octets : (a b : TbsCertificate) → tbs_octets a ≡ tbs_octets b → a ≡ b
 tbs_by_octets a b e =
     let parts = kinds_and_octets a.extensions b.extensions _ _ e in
-    tbs_told a b parts.0 (formed_encoding_once (tbs_certificate a) (tbs_certificate b) (tbs_formed a) (tbs_formed b) parts.1)
+    tbs_determined a b parts.0 (formed_encoding_once (tbs_certificate a) (tbs_certificate b) (tbs_formed a) (tbs_formed b) parts.1)

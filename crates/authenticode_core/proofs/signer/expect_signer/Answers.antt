@@ -29,4 +29,4 @@ returns g c =
     let s = c.in_ok-named.ensures in
     let is = kept_signer (data_elements c.args.signed_data.now) c.in_ok-named.named.place (view_elements c.in_ok-named.named.certificate) c.in_ok-signer.signer s c.in_ok-signer.ensures in
     vouched_or_not (g.S.Scheme.judge c.args.scheme.now) c.args.policy.now (data_elements c.args.signed_data.now) s.0 c.in_ok-named.named.place c.in_ok-signer.signer is
-    (subst IsDated c.checks-checks.ensures c.in_ok-expect_date.ensures) c.expect_standing.result (c.expect_standing.ensures s.0 is)
+    (subst IsDated c.checks-checks.ensures c.in_ok-expect_date.ensures) c.expect_valid_and_vouched.result (c.expect_valid_and_vouched.ensures s.0 is)

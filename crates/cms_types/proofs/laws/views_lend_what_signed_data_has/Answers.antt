@@ -5,9 +5,9 @@ use Rattle.cms_types.specs.SignedDataElements.{SignedDataElements, signed_data_o
 use Rattle.cms_types.specs.SignedView.{data_elements}
 use Rattle.cms_types.specs.SignerInfo.{signer_elements}
 use Rattle.cms_types.specs.SignerView.{signer_elements_at}
-use Rattle.cms_types.specs.Facts.SignedDatas.{told_value}
-use Rattle.cms_types.specs.Facts.SignerElements.{told_data, told_fields, same_data, same_signer}
-use Rattle.cms_types.specs.Facts.SignerInfos.{told_signer}
+use Rattle.cms_types.specs.Facts.SignedDatas.{determined_value}
+use Rattle.cms_types.specs.Facts.SignerElements.{determined_data, determined_fields, same_data, same_signer}
+use Rattle.cms_types.specs.Facts.SignerInfos.{determined_signer}
 use Rattle.cms_types.proofs.laws.views_lend_what_signed_data_has.Goals as goal
 
 inside : (f g : SignedDataElements) → pkcs7_of (signed_data_of f) ≡ pkcs7_of (signed_data_of g) → signed_data_of f ≡ signed_data_of g
@@ -18,8 +18,8 @@ returns c = record {
   signed = λ element view value lent is.
       let f = data_elements view in
       let g = signed_data_elements value.signed_data in
-      same_data f g (told_data f lent.fields) (told_value value.signed_data) (inside f g (sym lent.is ∙ is));
+      same_data f g (determined_data f lent.fields) (determined_value value.signed_data) (inside f g (sym lent.is ∙ is));
   signers = λ element view value lent is.
       let f = signer_elements_at view in
-      same_signer f (signer_elements value) (told_fields f lent.fields) (told_signer value) (sym lent.is ∙ is);
+      same_signer f (signer_elements value) (determined_fields f lent.fields) (determined_signer value) (sym lent.is ∙ is);
 }

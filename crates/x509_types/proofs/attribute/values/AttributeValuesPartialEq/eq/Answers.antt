@@ -3,14 +3,14 @@ use Rattle.std.specs.Prelude.{bytes_eq}
 use Rattle.der_core.specs.Facts.Equality.{same_whole, unlike}
 use Rattle.x509_types.specs.AttributeValues.{values_octets}
 use Rattle.x509_types.specs.Facts.AttributeLists.{values_by_octets}
-use Rattle.x509_types.specs.Facts.ToldExtensions.{told_decide}
+use Rattle.x509_types.specs.Facts.DeterminedExtensions.{decided_by_octets}
 use Rattle.x509_types.specs.declared.attribute.values.AttributeValues.{AttributeValues}
 use Rattle.x509_types.specs.declared.attribute.values.AttributeValues.TheVariants as values
 use Rattle.x509_types.proofs.Valued.{same_types, same_digests, same_requests, same_kept_values}
 use Rattle.x509_types.proofs.attribute.values.AttributeValuesPartialEq.eq.Goals as goal
 
 by_octets : (a b : AttributeValues) (t : Bool) → (IsTrue t ↔ (a ≡ b)) → t ≡ bytes_eq (values_octets a) (values_octets b)
-by_octets a b t same = told_decide values_octets values_by_octets a b t same
+by_octets a b t same = decided_by_octets values_octets values_by_octets a b t same
 
 pub returns-in-ContentType-ContentType-clause-same : goal.returns-in-ContentType-ContentType-clause-same
 returns-in-ContentType-ContentType-clause-same c = same_whole values.ContentType (λ a b e. cc) _ _ _ _ _ c.in-ContentType-ContentType.is-0 c.in-ContentType-ContentType.is-1 (same_types _ _ _ c.eq.ensures)

@@ -12,7 +12,7 @@ use Rattle.x509_types.specs.ExtensionKind.{extension_kind_number}
 use Rattle.x509_types.specs.ExtensionView.{kind_of_view}
 use Rattle.x509_types.specs.Extension.{extension, value_kinds}
 use Rattle.x509_types.specs.Facts.ExtensionKinds.{kinds_by_number}
-use Rattle.x509_types.specs.Facts.Extensions.{extensions_told}
+use Rattle.x509_types.specs.Facts.Extensions.{extensions_determined}
 use Rattle.x509_types.specs.declared.extension.Extension.{Extension}
 use Rattle.x509_types.specs.declared.extension.kind.ExtensionKind.{ExtensionKind}
 use Rattle.x509_types.specs.declared.extension.kind.ExtensionKind.TheVariants as kinds
@@ -22,24 +22,24 @@ use Rattle.x509_types.specs.declared.extension.kind.ExtensionKind.TheVariants as
 abbrev pub number_of : Extension → ℕ
 number_of e = extension_kind_number (kind_of_view e.extn_value)
 
-pub lists_told : (a b : List Extension) → map number_of a ≡ map number_of b → map extension a ≡ map extension b → a ≡ b
-lists_told [] [] k e = refl
-lists_told [] (y ∷ b) k e = absurd cc
-lists_told (x ∷ a) [] k e = absurd cc
-lists_told (x ∷ a) (y ∷ b) k e =
+pub lists_determined : (a b : List Extension) → map number_of a ≡ map number_of b → map extension a ≡ map extension b → a ≡ b
+lists_determined [] [] k e = refl
+lists_determined [] (y ∷ b) k e = absurd cc
+lists_determined (x ∷ a) [] k e = absurd cc
+lists_determined (x ∷ a) (y ∷ b) k e =
     let kind : number_of x ≡ number_of y = cc in
     let kinds : map number_of a ≡ map number_of b = cc in
     let first : extension x ≡ extension y = cc in
     let others : map extension a ≡ map extension b = cc in
-    ap (λ v. v ∷ a) (extensions_told x y (kinds_by_number (kind_of_view x.extn_value) (kind_of_view y.extn_value) kind) first) ∙ ap (λ vs. y ∷ vs) (lists_told a b kinds others)
+    ap (λ v. v ∷ a) (extensions_determined x y (kinds_by_number (kind_of_view x.extn_value) (kind_of_view y.extn_value) kind) first) ∙ ap (λ vs. y ∷ vs) (lists_determined a b kinds others)
 
-pub options_told : (a b : Option (List Extension)) → value_kinds a ≡ value_kinds b → option_map (list_element 0x30 extension) a ≡ option_map (list_element 0x30 extension) b → a ≡ b
-options_told None None k e = refl
-options_told None (Some y) k e = absurd cc
-options_told (Some x) None k e = absurd cc
-options_told (Some x) (Some y) k e =
+pub options_determined : (a b : Option (List Extension)) → value_kinds a ≡ value_kinds b → option_map (list_element 0x30 extension) a ≡ option_map (list_element 0x30 extension) b → a ≡ b
+options_determined None None k e = refl
+options_determined None (Some y) k e = absurd cc
+options_determined (Some x) None k e = absurd cc
+options_determined (Some x) (Some y) k e =
     let same : list_element 0x30 extension x ≡ list_element 0x30 extension y = cc in
-    ap Some (lists_told x y k (same_fields (map extension x) (map extension y) same))
+    ap Some (lists_determined x y k (same_fields (map extension x) (map extension y) same))
 
 -- ---- the kinds end where an element begins
 
@@ -80,8 +80,8 @@ pub kinds_and_octets : (x y : Option (List Extension)) (ks ls : DerElements) →
 kinds_and_octets x y ks ls e = split_before 0x30 (omega arith) (value_kinds x) (value_kinds y) _ _ _ _ refl refl (small_kinds x) (small_kinds y) e
 
 -- A test that holds exactly if two values are the same compares the octets that determine them.
-pub told_decide : {X : Type 0} (octets : X → List ℕ) → ((a b : X) → octets a ≡ octets b → a ≡ b)
+pub decided_by_octets : {X : Type 0} (octets : X → List ℕ) → ((a b : X) → octets a ≡ octets b → a ≡ b)
     → (a b : X) (test : Bool) → (IsTrue test ↔ (a ≡ b)) → test ≡ bytes_eq (octets a) (octets b)
-told_decide {X} octets one a b test same =
+decided_by_octets {X} octets one a b test same =
     let decides = bytes_eq-Decides (octets a) (octets b) in
     same_tests test (bytes_eq (octets a) (octets b)) same (λ w. one a b (decides.0 w), λ e. decides.1 (ap (λ (v : X). octets v) e))

@@ -6,7 +6,7 @@ use Rattle.der_core.specs.Facts.Grammars.{same_fields}
 use Rattle.der_core.specs.Facts.Rows.{listed-row}
 use Rattle.x509_types.specs.Extension.{extension, value_kinds}
 use Rattle.x509_types.specs.TbsCertificate.{extensions}
-use Rattle.x509_types.specs.Facts.ToldExtensions.{number_of, AreSmall, lists_told, small_list}
+use Rattle.x509_types.specs.Facts.DeterminedExtensions.{number_of, AreSmall, lists_determined, small_list}
 use Rattle.x509_types.specs.declared.extension.Extension.{Extension}
 
 abbrev pub kinds_of : List (List Extension) → List ℕ
@@ -24,16 +24,16 @@ split_kinds (a ∷ x) (b ∷ y) r s w e =
     let parts = split_kinds x y r s others kinds in
     (ap (λ n. n ∷ map number_of x) kind ∙ ap (λ ns. number_of b ∷ ns) parts.0, parts.1)
 
-each_told : (a b : List (List Extension)) → kinds_of a ≡ kinds_of b → map extensions a ≡ map extensions b → a ≡ b
-each_told [] [] k e = refl
-each_told [] (y ∷ b) k e = absurd cc
-each_told (x ∷ a) [] k e = absurd cc
-each_told (x ∷ a) (y ∷ b) k e =
+each_determined : (a b : List (List Extension)) → kinds_of a ≡ kinds_of b → map extensions a ≡ map extensions b → a ≡ b
+each_determined [] [] k e = refl
+each_determined [] (y ∷ b) k e = absurd cc
+each_determined (x ∷ a) [] k e = absurd cc
+each_determined (x ∷ a) (y ∷ b) k e =
     let first : extensions x ≡ extensions y = cc in
     let others : map extensions a ≡ map extensions b = cc in
     let written = same_fields (map extension x) (map extension y) first in
     let parts = split_kinds x y (kinds_of a) (kinds_of b) written k in
-    ap (λ v. v ∷ a) (lists_told x y parts.0 written) ∙ ap (λ vs. y ∷ vs) (each_told a b parts.1 others)
+    ap (λ v. v ∷ a) (lists_determined x y parts.0 written) ∙ ap (λ vs. y ∷ vs) (each_determined a b parts.1 others)
 
 -- sets are the same only if their members are
 pub same_members : (kids kids' : List DerElement) → Constructed 0x31 (row kids) ≡ Constructed 0x31 (row kids') → kids ≡ kids'
@@ -41,8 +41,8 @@ same_members kids kids' e =
     let same : row kids ≡ row kids' = cc in
     sym (listed-row kids) ∙ ap listed same ∙ listed-row kids'
 
-pub requests_told : (a b : List (List Extension)) → kinds_of a ≡ kinds_of b → list_element 0x31 extensions a ≡ list_element 0x31 extensions b → a ≡ b
-requests_told a b k e = each_told a b k (same_members (map extensions a) (map extensions b) e)
+pub requests_determined : (a b : List (List Extension)) → kinds_of a ≡ kinds_of b → list_element 0x31 extensions a ≡ list_element 0x31 extensions b → a ≡ b
+requests_determined a b k e = each_determined a b k (same_members (map extensions a) (map extensions b) e)
 
 -- ---- the kinds end where an element begins
 

@@ -10,11 +10,11 @@ use Rattle.x509_types.specs.TbsCertificate.{extensions}
 use Rattle.x509_types.specs.AttributeValues.{kind_of_values, attribute_values, asked_kinds}
 use Rattle.x509_types.specs.Attribute.{attribute, attribute_list}
 use Rattle.request_types.specs.RequestInfo.{asked_of}
-use Rattle.x509_types.specs.Facts.ToldExtensions.{number_of, AreSmall}
-use Rattle.x509_types.specs.Facts.ToldRequests.{kinds_of, split_kinds, same_members, small_append}
+use Rattle.x509_types.specs.Facts.DeterminedExtensions.{number_of, AreSmall}
+use Rattle.x509_types.specs.Facts.DeterminedRequests.{kinds_of, split_kinds, same_members, small_append}
 use Rattle.x509_types.specs.Facts.AttributeLists.{small_asked}
 use Rattle.asn1_types.specs.Facts.Elements.{same_identifier}
-use Rattle.x509_types.specs.Facts.Attributes.{same_two, same_kind, attributes_told}
+use Rattle.x509_types.specs.Facts.Attributes.{same_two, same_kind, attributes_determined}
 use Rattle.x509_types.specs.declared.attribute.Attribute.{Attribute}
 use Rattle.x509_types.specs.declared.attribute.values.AttributeValues.{AttributeValues}
 use Rattle.x509_types.specs.declared.attribute.values.AttributeValues.TheVariants as values
@@ -42,16 +42,16 @@ split_asked u v r s kind w e = absurd cc
 abbrev asked_in : List Attribute → List ℕ
 asked_in attributes = flat_map (λ (a : Attribute). asked_kinds a.value) attributes
 
-lists_told : (a b : List Attribute) → asked_in a ≡ asked_in b → map attribute a ≡ map attribute b → a ≡ b
-lists_told [] [] k e = refl
-lists_told [] (y ∷ b) k e = absurd cc
-lists_told (x ∷ a) [] k e = absurd cc
-lists_told (x ∷ a) (y ∷ b) k e =
+lists_determined : (a b : List Attribute) → asked_in a ≡ asked_in b → map attribute a ≡ map attribute b → a ≡ b
+lists_determined [] [] k e = refl
+lists_determined [] (y ∷ b) k e = absurd cc
+lists_determined (x ∷ a) [] k e = absurd cc
+lists_determined (x ∷ a) (y ∷ b) k e =
     let first : attribute x ≡ attribute y = cc in
     let others : map attribute a ≡ map attribute b = cc in
     let parts = same_two _ _ _ _ first in
     let kinds = split_asked x.value y.value (asked_in a) (asked_in b) (same_kind x y (same_identifier x.ty y.ty parts.0)) parts.1 k in
-    ap (λ v. v ∷ a) (attributes_told x y kinds.0 first) ∙ ap (λ vs. y ∷ vs) (lists_told a b kinds.1 others)
+    ap (λ v. v ∷ a) (attributes_determined x y kinds.0 first) ∙ ap (λ vs. y ∷ vs) (lists_determined a b kinds.1 others)
 
 -- elements with this tag are the same only if their members are
 same_tagged : (kids kids' : List DerElement) → Constructed 0xA0 (row kids) ≡ Constructed 0xA0 (row kids') → kids ≡ kids'
@@ -59,13 +59,13 @@ same_tagged kids kids' e =
     let same : row kids ≡ row kids' = cc in
     sym (listed-row kids) ∙ ap listed same ∙ listed-row kids'
 
-pub attribute_options_told : (a b : Option (List Attribute)) → asked_of a ≡ asked_of b → option_map attribute_list a ≡ option_map attribute_list b → a ≡ b
-attribute_options_told None None k e = refl
-attribute_options_told None (Some y) k e = absurd cc
-attribute_options_told (Some x) None k e = absurd cc
-attribute_options_told (Some x) (Some y) k e =
+pub attribute_options_determined : (a b : Option (List Attribute)) → asked_of a ≡ asked_of b → option_map attribute_list a ≡ option_map attribute_list b → a ≡ b
+attribute_options_determined None None k e = refl
+attribute_options_determined None (Some y) k e = absurd cc
+attribute_options_determined (Some x) None k e = absurd cc
+attribute_options_determined (Some x) (Some y) k e =
     let same : attribute_list x ≡ attribute_list y = cc in
-    ap Some (lists_told x y k (same_tagged (map attribute x) (map attribute y) same))
+    ap Some (lists_determined x y k (same_tagged (map attribute x) (map attribute y) same))
 
 small_list : (a : List Attribute) → AreSmall (asked_in a)
 small_list [] = tt

@@ -2,7 +2,7 @@ use Rattle.std.proofs.Common.{refl}
 use Rattle.std.proofs.lemmas.Result.{err_from_is_err_and}
 use Rattle.cms_types.specs.SignedView.{data_elements}
 use Rattle.authenticode_core.proofs.SignerOrder.{before_path, stands_over, unvouched_or_memory}
-use Rattle.authenticode_core.proofs.signer.expect_standing.Goals as goal
+use Rattle.authenticode_core.proofs.signer.expect_valid_and_vouched.Goals as goal
 
 pub returns-in_err-excuse : goal.returns-in_err-excuse
 returns-in_err-excuse g c = λ bag is.
