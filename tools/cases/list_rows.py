@@ -67,7 +67,7 @@ def excluding(policy, *texts):
 # What is answered.
 
 UNLISTED = refused("CAIsNotTrusted", "the CA is not on the trust list")
-REVOKED = refused("CaCertificateRevoked", "the trust list has revoked the CA")
+REVOKED = refused("CaCertificateRevoked", "the trust list revokes the CA")
 MALFORMED = refused("MalformedEntry", "an entry of the trust list is malformed")
 NO_CONTENT = refused("NoContent", "the trust list has no content")
 OTHER_CONTENT = refused("IncorrectContentValue", "the content of the trust list is another one")
@@ -75,11 +75,11 @@ LISTED = None
 
 
 def ended(not_after=NOW - 1, now=NOW):
-    return refused("CaCertificateExpired", f"the CA was on the trust list until {not_after}, and it is {now}")
+    return refused("CaCertificateExpired", f"the CA was on the trust list until {not_after}, and it is {now} (seconds since 1601)")
 
 
 def coming(not_before=NOW + 1, now=NOW):
-    return refused("CaCertificateNotYetValid", f"the CA is on the trust list from {not_before}, and it is {now}")
+    return refused("CaCertificateNotYetValid", f"the CA is on the trust list from {not_before} on, and it is {now} (seconds since 1601)")
 
 
 def unread(why="the element has another structure than the one that is read"):

@@ -144,12 +144,12 @@ ROWS = [
 
 # What some rows expect, by hand.
 BY_HAND = {
-    "an interval before 1601 is the second 0": "the trust list has the CA until 0, and now is 1 (seconds since 1601)",
+    "an interval before 1601 is the second 0": "the CA was on the trust list until 0, and it is 1 (seconds since 1601)",
     "an interval before 1601, at the second 0": "listed",
-    "a beginning in the far future": "the trust list has the CA from 915131444281 on, and now is 1 (seconds since 1601)",
+    "a beginning in the far future": "the CA is on the trust list from 915131444281 on, and it is 1 (seconds since 1601)",
     "the same of time stamping alone": "listed",
     "an end of seven octets": "the trust list revokes the CA",
     "no beginning in its set": "the CA's entry of the trust list is malformed",
-    "no entry": "the CA isn't on the trust list",
+    "no entry": "the CA is not on the trust list",
     "an entry with the digest alone": "listed",
 }

@@ -113,9 +113,9 @@ TEXTS = {
     "IncorrectContentValue": "the content of the trust list is another one",
     "MalformedEntry": "an entry of the trust list is malformed",
     "CAIsNotTrusted": "the CA is not on the trust list",
-    "CaCertificateRevoked": "the trust list has revoked the CA",
-    "CaCertificateExpired": "the CA was on the trust list until {0}, and it is {1}",
-    "CaCertificateNotYetValid": "the CA is on the trust list from {0}, and it is {1}",
+    "CaCertificateRevoked": "the trust list revokes the CA",
+    "CaCertificateExpired": "the CA was on the trust list until {0}, and it is {1} (seconds since 1601)",
+    "CaCertificateNotYetValid": "the CA is on the trust list from {0} on, and it is {1} (seconds since 1601)",
 }
 
 

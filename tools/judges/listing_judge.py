@@ -11,11 +11,11 @@ CODE_SIGNING = bytes.fromhex("2b06010505070303")
 PER_SECOND = 10_000_000
 
 TEXTS = {
-    "CAIsNotTrusted": "the CA isn't on the trust list",
+    "CAIsNotTrusted": "the CA is not on the trust list",
     "MalformedEntry": "the CA's entry of the trust list is malformed",
     "CaCertificateRevoked": "the trust list revokes the CA",
-    "CaCertificateExpired": "the trust list has the CA until {}, and now is {} (seconds since 1601)",
-    "CaCertificateNotYetValid": "the trust list has the CA from {} on, and now is {} (seconds since 1601)",
+    "CaCertificateExpired": "the CA was on the trust list until {}, and it is {} (seconds since 1601)",
+    "CaCertificateNotYetValid": "the CA is on the trust list from {} on, and it is {} (seconds since 1601)",
 }
 
 

@@ -93,13 +93,13 @@ content_error_text (contents.InvalidTimestampCert e) =
     codes "certificate of the time stamp: " ++ cert_error_text e
 content_error_text (contents.CtlError e) = ctl_error_text e
 content_error_text contents.CAIsNotTrusted = codes "the CA is not on the trust list"
-content_error_text contents.CaCertificateRevoked = codes "the trust list has revoked the CA"
+content_error_text contents.CaCertificateRevoked = codes "the trust list revokes the CA"
 content_error_text (contents.CaCertificateExpired not_after now) =
     codes "the CA was on the trust list until " ++ signed_decimal not_after
-    ++ codes ", and it is " ++ signed_decimal now
+    ++ codes ", and it is " ++ signed_decimal now ++ codes " (seconds since 1601)"
 content_error_text (contents.CaCertificateNotYetValid not_before now) =
     codes "the CA is on the trust list from " ++ signed_decimal not_before
-    ++ codes ", and it is " ++ signed_decimal now
+    ++ codes " on, and it is " ++ signed_decimal now ++ codes " (seconds since 1601)"
 content_error_text contents.ProgramNameCharSet =
     codes "the name of the program has a character past U+FFFF"
 content_error_text contents.NoCertificates = codes "the signed data has no certificates"

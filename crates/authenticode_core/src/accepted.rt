@@ -86,15 +86,9 @@ impl Accepted {
     pub(crate) fn at(self, place: usize) -> Accepted
         ensures { result ≡ at_place self place }
     {
-        let Accepted {
-            signer: _signer,
-            path,
-            excuse,
-        } = self;
         Accepted {
             signer: Some(place),
-            path,
-            excuse,
+            ..self
         }
     }
 

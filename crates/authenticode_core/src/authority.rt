@@ -51,7 +51,6 @@ fn next_name<'a>(name: &'a [u8], certificate: CertView<'a>) -> &'a [u8]
     match CertType::of(certificate) {
         CertType::Root => certificate.subject(),
         CertType::Intermediate => certificate.issuer(),
-        CertType::Leaf => name,
-        CertType::Unknown => name,
+        CertType::Leaf | CertType::Unknown => name,
     }
 }

@@ -281,15 +281,15 @@ impl fmt::Display for AuthenticodeError {
             AuthenticodeError::CtlError(error) => error.fmt(f),
             AuthenticodeError::CAIsNotTrusted => { write!(f, "the CA is not on the trust list") }
             AuthenticodeError::CaCertificateRevoked => {
-                write!(f, "the trust list has revoked the CA")
+                write!(f, "the trust list revokes the CA")
             }
             AuthenticodeError::CaCertificateExpired { not_after, now } => write!(
                 f,
-                "the CA was on the trust list until {not_after}, and it is {now}"
+                "the CA was on the trust list until {not_after}, and it is {now} (seconds since 1601)"
             ),
             AuthenticodeError::CaCertificateNotYetValid { not_before, now } => write!(
                 f,
-                "the CA is on the trust list from {not_before}, and it is {now}"
+                "the CA is on the trust list from {not_before} on, and it is {now} (seconds since 1601)"
             ),
             AuthenticodeError::ProgramNameCharSet => {
                 write!(f, "the name of the program has a character past U+FFFF")

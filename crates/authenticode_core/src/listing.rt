@@ -120,11 +120,14 @@ fn expect_excluded(
 }
 
 /// Whether one of the names is this one, given as octets. They are known to encode a name, so that
-/// reading them fails only if memory runs out.
+/// reading them fails only if memory runs out. They aren't read if there is no name to compare.
 fn has_name(alloc: Global, names: &[DirectoryName], name: &[u8]) -> Result<bool, AllocError>
     ensures { (element : DerElement) → name.now ≡ encoding element
-        → IfOk result (λ told. IsTrue told ↔ HasName names.now element) }
+        → IfOk result (λ has. IsTrue has ↔ HasName names.now element) }
 {
+    if names.is_empty() {
+        return Ok(false);
+    }
     let Ok(read) = DirectoryName::from_der(alloc, name) else {
         return Err(AllocError);
     };

@@ -16,7 +16,7 @@ use Rattle.picky_check.specs.ChainAnswer.{AreKeptCertificates, IsFirstUnread, Is
 
 -- if the first isn't read
 pub first_unread : (octets : List ℕ) (others all : List (List ℕ)) (e : CertError) → all ≡ octets ∷ others → IsUnreadCert elements.Certificate (RefusesOctets IsCertificate octets) e → IsFirstUnread all e
-first_unread octets others all e are unread = subst (λ (xs : List (List ℕ)). IsFirstUnread xs e) (sym are) (inl unread)
+first_unread octets others all e are unread = record { read = []; unread = octets; others = others; are = are; refused = unread }
 
 -- if memory ran out for storing it
 pub unkept : (octets : List ℕ) (others all : List (List ℕ)) → all ≡ octets ∷ others → IsFirstUnread all cert.Memory
@@ -24,7 +24,8 @@ unkept octets others all are = first_unread octets others all cert.Memory are (d
 
 -- if it is read, and a later one isn't
 pub later_unread : (octets : List ℕ) (others all : List (List ℕ)) (e : CertError) (certificate : KeptCertificate) → all ≡ octets ∷ others → kept_octets certificate ≡ octets → IsFirstUnread others e → IsFirstUnread all e
-later_unread octets others all e certificate are kept unread = subst (λ (xs : List (List ℕ)). IsFirstUnread xs e) (sym are) (inr ((certificate, kept), unread))
+later_unread octets others all e certificate are kept h =
+    record { read = certificate ∷ h.read; unread = h.unread; others = h.others; are = are ∙ ap₂ (λ (x : List ℕ) (xs : List (List ℕ)). x ∷ xs) (sym kept) h.are; refused = h.refused }
 
 -- if it is read, and so are all later ones
 pub read_behind : (octets : List ℕ) (others all : List (List ℕ)) (certificate : KeptCertificate) (before kept after : List KeptCertificate)

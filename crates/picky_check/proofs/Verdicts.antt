@@ -57,13 +57,19 @@ refused_for_memory kept octets der.TooDeep is refused = absurd refused
 refused_for_memory kept octets der.TooLong is refused = absurd refused
 refused_for_memory kept octets der.Memory is refused = refl
 
+-- octets among those of certificates are a certificate's
+kept_behind : (read certificates : List KeptCertificate) (octets : List ℕ) (others : List (List ℕ)) → map kept_octets certificates ≡ map kept_octets read ++ octets ∷ others
+    → (kept : KeptCertificate) × (kept_octets kept ≡ octets)
+kept_behind [] [] octets others same = absurd cc
+kept_behind [] (kept ∷ certificates) octets others same = (kept, cc)
+kept_behind (one ∷ read) [] octets others same = absurd cc
+kept_behind (one ∷ read) (kept ∷ certificates) octets others same = kept_behind read certificates octets others (cc)
+
 -- if all are certificates, none is refused except for out of memory
 unread_is_memory : (octets : List (List ℕ)) (certificates : List KeptCertificate) (e : CertError) → AreKeptCertificates octets certificates → IsFirstUnread octets e → e ≡ cert.Memory
-unread_is_memory [] certificates e are unread = absurd unread
-unread_is_memory (one ∷ others) [] e are unread = absurd cc
-unread_is_memory (one ∷ others) (kept ∷ certificates) e are (inl refused) =
-    refused.1 ∙ ap (unread elements.Certificate) (refused_for_memory kept one refused.0 (cc) refused.2)
-unread_is_memory (one ∷ others) (kept ∷ certificates) e are (inr behind) = unread_is_memory others certificates e (cc) behind.1
+unread_is_memory octets certificates e are h =
+    let kept = kept_behind h.read certificates h.unread h.others (are ∙ h.are) in
+    h.refused.1 ∙ ap (unread elements.Certificate) (refused_for_memory kept.0 h.unread h.refused.0 kept.1 h.refused.2)
 
 -- one is out of memory, or they have one name
 abbrev IsNamedAlike : CertError → CertError → Type 0
@@ -78,10 +84,8 @@ unread_name der.Memory = inl refl
 
 -- octets that are no certificate are refused with this name
 first_name : (octets : List (List ℕ)) (e : CertError) → IsFirstUnread octets e → (e ≡ cert.Memory) ⊎ (cert_error_name e ≡ codes "Asn1Deserialization")
-first_name [] e h = absurd h
-first_name (one ∷ others) e (inl refused) =
-    subst (λ (x : CertError). (x ≡ cert.Memory) ⊎ (cert_error_name x ≡ codes "Asn1Deserialization")) (sym refused.1) (unread_name refused.0)
-first_name (one ∷ others) e (inr behind) = first_name others e behind.1
+first_name octets e h =
+    subst (λ (x : CertError). (x ≡ cert.Memory) ⊎ (cert_error_name x ≡ codes "Asn1Deserialization")) (sym h.refused.1) (unread_name h.refused.0)
 
 unread_alike : (octets : List (List ℕ)) (e f : CertError) → IsFirstUnread octets e → IsFirstUnread octets f → IsNamedAlike e f
 unread_alike octets e f a b = elim (first_name octets e a) [

@@ -1,5 +1,5 @@
 -- The result for a certificate with its parents, from their octets.
-use Rattle.std.specs.Prelude.{◌≡◌, ◌⊎◌, ℕ, List, [], ◌∷◌, length, map, Some, Result, Ok, Err}
+use Rattle.std.specs.Prelude.{◌≡◌, ◌⊎◌, ℕ, List, [], ◌∷◌, ◌++◌, length, map, Some, Result, Ok, Err}
 use Rattle.std.specs.Result.{IsErrAnd}
 use Rattle.asn1_types.specs.declared.generalized_time.GeneralizedTime.{GeneralizedTime}
 use Rattle.der_core.specs.Refusals.{RefusesOctets}
@@ -24,12 +24,12 @@ abbrev pub AreKeptCertificates : List (List ℕ) → List KeptCertificate → Ty
 AreKeptCertificates octets certificates = map kept_octets certificates ≡ octets
 
 -- The error is that of the first octets that aren't a certificate.
-abbrev pub IsFirstUnread : List (List ℕ) → CertError → Type 0
-IsFirstUnread [] e = ⊥
-IsFirstUnread (octets ∷ others) e =
-    IsUnreadCert elements.Certificate (RefusesOctets IsCertificate octets) e
-    ⊎ (((certificate : KeptCertificate) × (kept_octets certificate ≡ octets))
-    × IsFirstUnread others e)
+pub record IsFirstUnread (octets : List (List ℕ)) (e : CertError) : Type 0 where
+  pub read : List KeptCertificate
+  pub unread : List ℕ
+  pub others : List (List ℕ)
+  pub are : octets ≡ map kept_octets read ++ unread ∷ others
+  pub refused : IsUnreadCert elements.Certificate (RefusesOctets IsCertificate unread) e
 
 -- The first certificate is accepted with the others, and these are counted; or the error reports
 -- the first broken rule.

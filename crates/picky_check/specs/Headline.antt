@@ -45,7 +45,8 @@ pub record IsVouchedFile (signature table hash : List ℕ) (lists : List (List �
   pub place_is : accepted.signer ≡ Some place
   pub vouches : VouchesFor (verdict_of rows) signed_data hash place
 
--- The file of the options is a trust list, as far as the shelf exposes its files.
+-- The list file is signed data whose content is read as a trust list. Its octets are those of the
+-- file as far as the shelf exposes its files.
 pub record HasList (files : Option Files) (asked : AskedList) (lists : List (List ℕ))
     (list : Option (Bor CertificateTrustList)) : Type 0 where
   pub octets : List ℕ
@@ -87,8 +88,8 @@ pub record IsVouchedFor (words : List (List ℕ)) (shelf shelf_now : ShelfState)
 -- certificate, its path length allows those between, names and key identifiers agree, and the
 -- table accepts the signature over the octets in the file. An excuse is reported only if the
 -- signer's certificate has expired, excuses this, and waives the not-after date of that
--- certificate alone. Under --list the file is a trust list, the CA of the signer is on it at
--- SECONDS, and so is that of a token that excuses an expiry.
+-- certificate alone. Under --list the content of the list file is a trust list, the name of the
+-- signer's CA is on it at SECONDS, and so is that of the CA of a token that excuses an expiry.
 pub record IsVouchedSignature (words : List (List ℕ)) (shelf shelf_now : ShelfState)
     (held held_now : Option (List ℕ)) : Type 0 where
   pub signature : List ℕ

@@ -26,7 +26,7 @@ pub(crate) enum Job<'a> {
         hash: Vec<u8>,
     },
     /// The same, and the signer's certificate with those of its issuers, at a date or over an
-    /// interval.
+    /// interval, and whether a trust list has its CA.
     Check {
         signature: &'a str,
         table: &'a str,

@@ -26,18 +26,18 @@ impl fmt::Display for ListingError {
 
     fn fmt<W: fmt::Write>(&self, f: &mut fmt::Formatter<W>) -> fmt::Result {
         match self {
-            ListingError::NotListed => write!(f, "the CA isn't on the trust list"),
+            ListingError::NotListed => write!(f, "the CA is not on the trust list"),
             ListingError::MalformedEntry => {
                 write!(f, "the CA's entry of the trust list is malformed")
             }
             ListingError::Revoked => write!(f, "the trust list revokes the CA"),
             ListingError::Expired { not_after, now } => write!(
                 f,
-                "the trust list has the CA until {not_after}, and now is {now} (seconds since 1601)"
+                "the CA was on the trust list until {not_after}, and it is {now} (seconds since 1601)"
             ),
             ListingError::NotYetValid { not_before, now } => write!(
                 f,
-                "the trust list has the CA from {not_before} on, and now is {now} (seconds since 1601)"
+                "the CA is on the trust list from {not_before} on, and it is {now} (seconds since 1601)"
             ),
         }
     }

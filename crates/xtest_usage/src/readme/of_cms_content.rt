@@ -5,7 +5,7 @@ use der_core::{DerError, Structure};
 use std::alloc::Global;
 use std::test::Fail;
 
-/// The digest of the file that an SpcIndirectDataContent stands for.
+/// The digest of a file that an SpcIndirectDataContent has.
 fn file_digest(alloc: Global, octets: &[u8]) -> Result<Vec<u8>, DerError> {
     let content = SpcIndirectDataContent::from_der(alloc, octets)?;
     let digest = content.message_digest.digest.as_slice();

@@ -18,9 +18,5 @@ returns-in-Intermediate c = λ before is.
 pub returns-in-Leaf : goal.returns-in-Leaf
 returns-in-Leaf c = λ before is.
     let e = view_elements c.args.certificate in
-    (before, inr (leaf_is_none e (subst (λ (t : CertType). IsOfType e t) c.in-Leaf.is c.of.ensures), refl), is)
-
-pub returns-in-Unknown : goal.returns-in-Unknown
-returns-in-Unknown c = λ before is.
-    let e = view_elements c.args.certificate in
-    (before, inr (unknown_is_none e (subst (λ (t : CertType). IsOfType e t) c.in-Unknown.is c.of.ensures), refl), is)
+    let of = λ (t : CertType) (is : c.of.result ≡ t). subst (λ (t : CertType). IsOfType e t) is c.of.ensures in
+    (before, inr (elim c.in-Leaf.is [ | inl leaf ↦ leaf_is_none e (of _ leaf) | inr unknown ↦ unknown_is_none e (of _ unknown) ], refl), is)
