@@ -194,7 +194,7 @@ def main(words):
     parser = argparse.ArgumentParser(description="Time to read a certificate.")
     parser.add_argument("--rounds", type=int, default=7)
     parser.add_argument("--times", type=int, default=200)
-    parser.add_argument("program", type=Path, help="path of xgolden_certificate")
+    parser.add_argument("program", type=command.executable, help="path of xgolden_certificate")
     options = parser.parse_args(words)
     with tempfile.TemporaryDirectory() as name:
         folder = Path(name)

@@ -107,7 +107,7 @@ def main(words):
     parser = argparse.ArgumentParser(description="Speed of a cursor.")
     parser.add_argument("--repetitions", type=int, default=3)
     parser.add_argument("--cryptobyte", help="path of the program of bench/cursor/cursor.go")
-    parser.add_argument("program", help="path of xgolden_der")
+    parser.add_argument("program", type=command.executable, help="path of xgolden_der")
     options = parser.parse_args(words)
     kept = True
     print(f"| file | MiB | elements | openssl s | cryptobyte s | cursor s | speed, at least {LEAST_SPEED} "

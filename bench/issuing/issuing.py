@@ -130,13 +130,20 @@ def files(folder):
     return now, sum(map(len, chain))
 
 
+def ring_sources():
+    """The folder of Debian's sources of ring."""
+    for folder in Path(REGISTRY).glob("ring-0.16.*"):
+        return folder
+    raise command.Refusal(f"{REGISTRY} has no sources of ring 0.16")
+
+
 def built(folder):
     """The paths of the other programs."""
     rust = folder / "rust"
     (rust / ".cargo").mkdir(parents=True)
     (rust / "ring").mkdir()
     (rust / "Cargo.toml").write_text(CARGO.format(source=HERE / "issuing.rs"))
-    (rust / "ring/Cargo.toml").write_text(RING_CARGO.format(source=HERE / "issuing_ring.rs", real=next(Path(REGISTRY).glob("ring-0.16.*"))))
+    (rust / "ring/Cargo.toml").write_text(RING_CARGO.format(source=HERE / "issuing_ring.rs", real=ring_sources()))
     (rust / ".cargo/config.toml").write_text(CARGO_CONFIG)
     for words, place in (
         (["cargo", "build", "--quiet", "--release", "--offline"], rust),
@@ -181,7 +188,7 @@ def main(words):
     parser = argparse.ArgumentParser(description="Time to judge a chain and to build a certificate.")
     parser.add_argument("--rounds", type=int, default=7)
     parser.add_argument("--times", type=int, default=2000)
-    parser.add_argument("program", type=Path, help="path of xgolden_issuing")
+    parser.add_argument("program", type=command.executable, help="path of xgolden_issuing")
     options = parser.parse_args(words)
     with tempfile.TemporaryDirectory() as name:
         folder = Path(name)

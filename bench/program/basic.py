@@ -161,7 +161,7 @@ def main(words):
     parser.add_argument("--processor", dest="time", action="store_const",
                         const="processor", default="clock",
                         help="judge by the time that processors worked")
-    parser.add_argument("program", type=Path, help="path of the executable")
+    parser.add_argument("program", type=command.executable, help="path of the executable")
     options = parser.parse_args(words)
     program = str(options.program.resolve())
     with tempfile.TemporaryDirectory() as name:

@@ -61,7 +61,7 @@ def main(words):
     parser.add_argument("--repetitions", type=int, default=7)
     parser.add_argument("--processor", dest="time", action="store_const", const="processor", default="clock",
                         help="judge by the time that processors worked")
-    parser.add_argument("program", type=Path, help="path of the executable")
+    parser.add_argument("program", type=command.executable, help="path of the executable")
     options = parser.parse_args(words)
     with tempfile.TemporaryDirectory() as name:
         try:

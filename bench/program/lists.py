@@ -205,7 +205,7 @@ def report_long(program, folder, repetitions):
 def main(words):
     parser = argparse.ArgumentParser(description="Time and memory of `picky check` with a trust list.")
     parser.add_argument("--repetitions", type=int, default=7)
-    parser.add_argument("program", type=Path, help="path of the executable")
+    parser.add_argument("program", type=command.executable, help="path of the executable")
     options = parser.parse_args(words)
     program = str(options.program.resolve())
     with tempfile.TemporaryDirectory() as folder:

@@ -143,7 +143,7 @@ def measured(program, job):
 def main(words):
     parser = argparse.ArgumentParser(description="What the worst files cost.")
     parser.add_argument("--repetitions", type=int, default=3)
-    parser.add_argument("program", type=Path, help="path of the executable")
+    parser.add_argument("program", type=command.executable, help="path of the executable")
     options = parser.parse_args(words)
     program, well = str(options.program.resolve()), True
     print("| files | MiB | s | resident MiB |\n|---|---:|---:|---:|")

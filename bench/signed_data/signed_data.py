@@ -144,7 +144,7 @@ def main(words):
     parser = argparse.ArgumentParser(description="Time to read signed data.")
     parser.add_argument("--rounds", type=int, default=7)
     parser.add_argument("--times", type=int, default=2000)
-    parser.add_argument("program", type=Path, help="path of xgolden_cms")
+    parser.add_argument("program", type=command.executable, help="path of xgolden_cms")
     options = parser.parse_args(words)
     with tempfile.TemporaryDirectory() as name:
         folder = Path(name)

@@ -2,6 +2,7 @@
 
 import os
 import sys
+from argparse import ArgumentTypeError
 from pathlib import Path
 from subprocess import CalledProcessError
 
@@ -33,6 +34,14 @@ def sentence(error):
     if isinstance(error, OSError) and error.filename is not None:
         return f"{error.filename}: {error.strerror}"
     return " ".join(str(error).split())
+
+
+def executable(word):
+    """The path of a program, as a type of argparse's arguments."""
+    path = Path(word)
+    if not (path.is_file() and os.access(path, os.X_OK)):
+        raise ArgumentTypeError(f"'{word}' is no executable")
+    return path
 
 
 def run(main, doc):

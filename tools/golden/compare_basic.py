@@ -171,7 +171,7 @@ def options(words, description, count, program):
     parser = argparse.ArgumentParser(description=description)
     parser.add_argument("--seed", type=int, default=1)
     parser.add_argument("--count", type=int, default=count)
-    parser.add_argument("program", type=Path, help=f"path of {program}")
+    parser.add_argument("program", type=command.executable, help=f"path of {program}")
     return parser.parse_args(words)
 
 

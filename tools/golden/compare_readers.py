@@ -65,6 +65,7 @@ and this length has the same answer.  Else each next octet is tried in turn.
 """
 
 import argparse
+import shutil
 import subprocess
 import sys
 import tempfile
@@ -247,6 +248,8 @@ def main(words):
     options = parser.parse_args(words)
     if not options.program:
         parser.error("no program is given")
+    if shutil.which(options.program[0]) is None:
+        parser.error(f"'{options.program[0]}' is no executable")
     families = () if options.skip_digests else FAMILIES
     comparison = compare(options.program, options.count, options.seed, families)
     print(f"{comparison.compared:,} inputs compared, {comparison.different:,} differences")

@@ -25,7 +25,7 @@ sys.path.insert(0, str(Path(__file__).resolve().parents[1]))
 
 from cases import basic_rows, basic_steps, basic_world, made_signatures
 from common import command
-from golden.stored_run import write_stored_run
+from golden.stored_run import names_folder, write_stored_run
 from judges.basic_judge import answer
 from judges.value_reader import word
 
@@ -64,6 +64,8 @@ def unlike():
 
 
 def main(arguments):
+    if not names_folder("xgolden_basic.py", arguments):
+        return 2
     complaints = list(unlike())
     if basic_rows.wrapped(basic_rows.encoded(basic_rows.LINES)) != basic_rows.FILE:
         complaints.append("the lines are not those of the file")

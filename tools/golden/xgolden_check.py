@@ -21,7 +21,7 @@ sys.path.insert(0, str(Path(__file__).resolve().parents[1]))
 
 from cases import check_rows, real_policies
 from common import command
-from golden.stored_run import write_stored_run
+from golden.stored_run import names_folder, write_stored_run
 from judges.check_judge import answer
 from judges.value_reader import word
 
@@ -89,6 +89,8 @@ def unlike():
 
 
 def main(arguments):
+    if not names_folder("xgolden_check.py", arguments):
+        return 2
     complaints = list(unlike())
     for complaint in complaints:
         print(f"xgolden_check.py: {complaint}", file=sys.stderr)
