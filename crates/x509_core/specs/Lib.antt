@@ -1,4 +1,5 @@
--- Promises, which public contracts cite: all but those named below; first `Window`, `Link`, `Chain`.
+-- Promises, which public contracts cite: all but those named below; first `Window`, `Link`,
+-- `Chain`, then `History`, `Issued`.
 -- Words of the crates above: `Distinct`.
 -- Inside, which no public contract cites: `Facts`.
 pub mod Keyless
@@ -13,6 +14,8 @@ pub mod Window
 pub mod Link
 pub mod Checks
 pub mod Chain
+pub mod History
+pub mod Issued
 pub mod CertRefusals
 pub mod Spellings
 pub mod CsrErrorText
