@@ -22,3 +22,9 @@ pub mod OneLink
 pub mod OneChain
 pub mod SameChains
 pub mod NoRefusal
+pub mod Histories
+pub mod Rows
+pub mod IssuedLinks
+pub mod GrowingHistories
+pub mod SealedHistories
+pub mod HistoryExamples

@@ -10,6 +10,7 @@ mod chain_laws;
 mod csr_error;
 mod error;
 mod error_name;
+mod history_laws;
 mod key_link;
 mod keyless;
 mod laws;
@@ -24,6 +25,10 @@ pub use cert_type::CertType;
 pub use chain_laws::{chains_break_no_rule, chains_have_one_answer};
 pub use csr_error::CsrError;
 pub use error::{Arg, CaChainError, CertCause, CertError, ExtName};
+pub use history_laws::{
+    histories_decide_acceptance, histories_grow_by_steps, sealed_histories_accept_no_others,
+    steps_have_one_line,
+};
 pub use key_core::Element;
 pub use laws::{certificates_are_written_as_read, elements_and_values_say_the_same};
 pub use parent::names_agree;
