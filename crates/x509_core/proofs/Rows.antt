@@ -70,10 +70,12 @@ module _ {K : Type 0} (Holds : ℕ → K → Type 0) where
   pub hold_row : (number : ℕ) (items : List K) → HoldFrom number items → HoldRow number items
   hold_row number [] holds = tt
   hold_row number (item ∷ items) holds =
-      let shift : number + 0 ≡ number = omega arith in
-      (subst (λ (n : ℕ). Holds n item) shift (holds 0 item refl), hold_row (number + 1) items (λ at other is.
-          let shift : number + suc at ≡ number + 1 + at = omega arith in
-          subst (λ (n : ℕ). Holds n other) shift (holds (suc at) other is)))
+      let shift : number + 0 ≡ number = omega arith in (
+        subst (λ (n : ℕ). Holds n item) shift (holds 0 item refl),
+        hold_row (number + 1) items (λ at other is.
+            let shift : number + suc at ≡ number + 1 + at = omega arith in
+            subst (λ (n : ℕ). Holds n other) shift (holds (suc at) other is)),
+      )
 
   pub row_holds : (number : ℕ) (items : List K) → HoldRow number items → HoldFrom number items
   row_holds number [] row at item is = absurd (none_is_some item is)

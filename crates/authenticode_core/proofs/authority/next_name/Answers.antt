@@ -19,4 +19,4 @@ pub returns-in-Leaf : goal.returns-in-Leaf
 returns-in-Leaf c = λ before is.
     let e = view_elements c.args.certificate in
     let of = λ (t : CertType) (is : c.of.result ≡ t). subst (λ (t : CertType). IsOfType e t) is c.of.ensures in
-    (before, inr (elim c.in-Leaf.is [ | inl leaf ↦ leaf_is_none e (of _ leaf) | inr unknown ↦ unknown_is_none e (of _ unknown) ], refl), is)
+    (before, inr (elim c.in-Leaf.is [ inl leaf ↦ leaf_is_none e (of _ leaf) | inr unknown ↦ unknown_is_none e (of _ unknown) ], refl), is)
