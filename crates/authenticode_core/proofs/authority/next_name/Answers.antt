@@ -1,4 +1,4 @@
-use Rattle.std.proofs.Common.{inl, inr, refl, sym, subst, ◌∙◌}
+use Rattle.std.proofs.Common.{◌≡◌, inl, inr, refl, sym, subst, ◌∙◌}
 use Rattle.x509_core.specs.CertType.{IsOfType}
 use Rattle.x509_core.specs.declared.cert_type.CertType.{CertType}
 use Rattle.x509_types.specs.CertificateView.{view_elements}
