@@ -5,8 +5,8 @@ use Rattle.std.specs.Str.{bytes_eq}
 use Rattle.std.proofs.lemmas.List.{take_all}
 use Rattle.std.proofs.lemmas.Slice.Eq.{bytes_eq-Decides}
 use Rattle.asn1_types.specs.declared.generalized_time.GeneralizedTime.{GeneralizedTime}
-use Rattle.picky_check.specs.DateWord.{IsDateWord}
-use Rattle.picky_check.specs.Options.{AreOptions, CheckOptions}
+use Rattle.program_frame.specs.DateWord.{IsDateWord}
+use Rattle.program_frame.specs.Options.{AreOptions, CheckOptions}
 use Rattle.picky_check.specs.Words.{Job, Basic, Check, Chain, AsksFor, IsCheck, asked_hash}
 
 pub some_is : {A : Type 0} (o : Option A) → IsSome o → (x : A) × (o ≡ Some x)
@@ -20,17 +20,6 @@ basic_asks text (signature ∷ table ∷ hash ∷ []) word three last there =
     let known = some_is (asked_hash (text word)) there in
     (Basic (text signature) (text table) known.0, record { word = text hash; words_are = refl; hash_is = ap (λ w. asked_hash (text w)) (sym last) ∙ known.1 })
 basic_asks text words word three last there = absurd (omega arith)
-
--- the words after the first, as in the code
-abbrev pub behind : {W : Type 0} → List W → List W
-behind words = take (length words - 1) (drop 1 words)
-
-pub words_are : {W : Type 0} (text : W → List ℕ) (words : List W) (first : W) (command : List ℕ) → 1 ≤ length words → first ≡ get_or words 0 first → text first ≡ command
-    → map text words ≡ command ∷ map text (behind words)
-words_are text [] first command some is said = absurd (omega arith)
-words_are text (word ∷ words) first command some is said =
-    let all = take_all (length (word ∷ words) - 1) words (omega arith) in
-    cc
 
 -- the test for a command's word says that it is that word
 pub text_is : (text other : List ℕ) (test : Bool) → test ≡ bytes_eq text other → test ≡ true → text ≡ other

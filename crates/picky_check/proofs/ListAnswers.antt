@@ -8,9 +8,9 @@ use Rattle.authenticode_core.specs.declared.accepted.Accepted.{Accepted}
 use Rattle.authenticode_core.specs.declared.ctl.CertificateTrustList.{CertificateTrustList}
 use Rattle.authenticode_core.specs.declared.error.CheckError.{CheckError}
 use Rattle.authenticode_core.specs.declared.error.CheckError.TheVariants as check
-use Rattle.picky_check.specs.Options.{CheckOptions}
-use Rattle.picky_check.specs.declared.report.Report.{Report}
-use Rattle.picky_check.specs.declared.stop.Stop.{Stop}
+use Rattle.program_frame.specs.Options.{CheckOptions}
+use Rattle.program_frame.specs.declared.report.Report.{Report}
+use Rattle.program_frame.specs.declared.stop.Stop.{Stop}
 use Rattle.picky_check.specs.Inquiry.{GivesReport, IsReported, Reports}
 use Rattle.picky_check.specs.Policies.{check_policy}
 use Rattle.picky_check.specs.Report.{Answer, OfSignature, OfChain, WantsMemory, refused_line}

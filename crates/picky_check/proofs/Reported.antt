@@ -1,5 +1,6 @@
 -- A report of an answer is a report of each answer with the same cause.
-use Rattle.std.proofs.Common.{◌≡◌, ◌⊎◌, ℕ, List, Result, Ok, Err, inl, inr, refl, sym, subst}
+use Rattle.std.proofs.Common.{◌≡◌, ◌⊎◌, ℕ, ◌≤◌, List, Result, Ok, Err, inl, inr, refl, sym, subst, ◌∙◌, arith}
+use Rattle.std.specs.Prelude.{string_bytes}
 use Rattle.authenticode_core.specs.declared.accepted.Accepted.{Accepted}
 use Rattle.authenticode_core.specs.declared.error.CheckError.{CheckError}
 use Rattle.authenticode_core.specs.declared.error.CheckError.TheVariants as check
@@ -7,10 +8,12 @@ use Rattle.der_core.specs.Rules.{AreOneUnlessMemory}
 use Rattle.key_core.specs.Verifying.{Judge}
 use Rattle.authenticode_core.specs.Trusted.{IsAnswer}
 use Rattle.authenticode_core.specs.declared.policy.Policy.{Policy}
-use Rattle.picky_check.specs.declared.report.Report.{Report}
-use Rattle.picky_check.specs.declared.stop.Stop.{Stop}
-use Rattle.picky_check.specs.declared.stop.Stop.TheVariants as stop
-use Rattle.picky_check.specs.Report.{Answer, OfSignature, OfChain, WantsMemory}
+use Rattle.program_frame.specs.declared.report.Report.{Report}
+use Rattle.program_frame.specs.declared.stop.Stop.{Stop}
+use Rattle.program_frame.specs.declared.stop.Stop.TheVariants as stop
+use Rattle.program_frame.specs.Inquiry.{GivesLine}
+use Rattle.program_frame.specs.Question.{Line}
+use Rattle.picky_check.specs.Report.{Answer, OfSignature, OfChain, WantsMemory, report_line, status_of}
 use Rattle.picky_check.specs.Inquiry.{IsReported, GivesReport, Reports}
 use Rattle.picky_check.specs.SignatureAnswer.{IsSignatureAnswer}
 
@@ -32,6 +35,23 @@ pub reported_is : (Is : Answer → Type 0) (answer : Answer) (result : Result Re
     → ((other : Answer) → Is other → GivesReport other result) → Reports Is result
 reported_is Is answer (Ok report) is h only = record { reported = (answer, is, h); stopped = tt; only = only }
 reported_is Is answer (Err s) is h only = record { reported = tt; stopped = h; only = only }
+
+-- ---- lines
+
+pub low : (answer : Answer) → status_of answer ≤ 1
+low (OfSignature (Ok a)) = omega arith
+low (OfSignature (Err e)) = omega arith
+low (OfChain (Ok count)) = omega arith
+low (OfChain (Err e)) = omega arith
+
+-- a report of an answer has the line that reports it
+pub gives_line : (answer : Answer) (line : Line) (result : Result Report Stop) → line.status ≡ status_of answer → line.text ≡ report_line answer
+    → IsReported answer result → GivesLine line result
+gives_line answer line (Ok report) status text h =
+    let same_status : report.status ≡ line.status = h.status ∙ sym status in
+    let same_text : string_bytes report.line ≡ line.text = h.line ∙ sym text in
+    λ i. record { status = same_status i; text = same_text i }
+gives_line answer line (Err s) status text h = h
 
 -- ---- for a signature file
 

@@ -21,8 +21,8 @@ use Rattle.x509_core.specs.Facts.Certs.{kept_once}
 use Rattle.x509_core.specs.declared.error.CertError.{CertError}
 use Rattle.x509_core.specs.declared.error.CertError.TheVariants as cert
 use Rattle.x509_core.specs.declared.validator.ChainChecks.{ChainChecks}
-use Rattle.picky_check.specs.declared.report.Report.{Report}
-use Rattle.picky_check.specs.declared.stop.Stop.{Stop}
+use Rattle.program_frame.specs.declared.report.Report.{Report}
+use Rattle.program_frame.specs.declared.stop.Stop.{Stop}
 use Rattle.picky_check.specs.Answer.{IsCertificateAnswer}
 use Rattle.picky_check.specs.ChainAnswer.{AreKeptCertificates, IsFirstUnread, IsChainJudged, IsChainAnswer, all_checks}
 use Rattle.picky_check.specs.Report.{Answer, OfSignature, OfChain, WantsMemory}

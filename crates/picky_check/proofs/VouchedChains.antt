@@ -10,11 +10,11 @@ use Rattle.x509_core.specs.KeptCertificate.{KeptCertificate}
 use Rattle.x509_core.specs.declared.cert_type.CertType.TheVariants as types
 use Rattle.picky_check.specs.ChainAnswer.{AreKeptCertificates, IsChainAnswer, IsChainJudged, all_checks}
 use Rattle.picky_check.specs.ChainHeadline.{IsVouchedChain, window_at}
-use Rattle.picky_check.specs.Limits.{IsWholeFile, AreWholeFiles}
-use Rattle.picky_check.specs.ReadFiles.{HandsOut, total_length}
+use Rattle.program_frame.specs.Limits.{IsWholeFile, AreWholeFiles}
+use Rattle.program_frame.specs.ReadFiles.{HandsOut, total_length}
 use Rattle.picky_check.specs.Report.{parents_line}
-use Rattle.picky_check.specs.Shelf.{ShelfState}
-use Rattle.picky_check.specs.Sink.{Appends}
+use Rattle.program_frame.specs.Shelf.{ShelfState}
+use Rattle.program_frame.specs.Sink.{Appends}
 use Rattle.picky_check.specs.Words.{Chain, AsksFor}
 
 -- the path of an accepted certificate is the one that was given

@@ -10,14 +10,14 @@ use Rattle.authenticode_core.specs.Basic.{HasSignedData, VouchesFor}
 use Rattle.authenticode_core.specs.Trusted.{IsAnswer, IsBasicallyVouched}
 use Rattle.authenticode_core.specs.declared.accepted.Accepted.{Accepted}
 use Rattle.authenticode_core.specs.declared.ctl.CertificateTrustList.{CertificateTrustList}
-use Rattle.picky_check.specs.Options.{CheckOptions}
+use Rattle.program_frame.specs.Options.{CheckOptions}
 use Rattle.picky_check.specs.Headline.{IsGivenList, IsVouchedFile, IsVouchedFor, IsVouchedSignature}
-use Rattle.picky_check.specs.Limits.{IsWholeFile}
+use Rattle.program_frame.specs.Limits.{IsWholeFile}
 use Rattle.picky_check.specs.Policies.{basic_policy, check_policy}
-use Rattle.picky_check.specs.ReadFiles.{HandsOut, total_length}
+use Rattle.program_frame.specs.ReadFiles.{HandsOut, total_length}
 use Rattle.picky_check.specs.Report.{accepted_line}
-use Rattle.picky_check.specs.Shelf.{ShelfState}
-use Rattle.picky_check.specs.Sink.{Appends}
+use Rattle.program_frame.specs.Shelf.{ShelfState}
+use Rattle.program_frame.specs.Sink.{Appends}
 use Rattle.picky_check.specs.Words.{Basic, Check, AsksFor}
 
 same_hash : (a b : List ℕ) → Some a ≡ Some b → b ≡ a

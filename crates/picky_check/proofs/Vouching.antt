@@ -1,5 +1,5 @@
 -- What is accepted is vouched for.
-use Rattle.std.proofs.Common.{◌≡◌, List, [], ◌∷◌, ℕ, ◌+◌, length, Option, Some, None, Result, Ok, Err, inl, inr, refl, subst, arith}
+use Rattle.std.proofs.Common.{◌≡◌, List, [], ◌∷◌, ℕ, ◌+◌, length, Option, Some, None, Result, Ok, Err, inl, inr, refl, sym, subst, ◌∙◌, arith}
 use Rattle.std.specs.Borrow.{Bor}
 use Rattle.std.proofs.lemmas.List.Sums.{sum_by-cons}
 use Rattle.asn1_types.specs.declared.generalized_time.GeneralizedTime.{GeneralizedTime}
@@ -14,19 +14,20 @@ use Rattle.authenticode_core.specs.declared.ctl.CertificateTrustList.{Certificat
 use Rattle.authenticode_core.specs.declared.error.CheckError.{CheckError}
 use Rattle.authenticode_core.specs.declared.policy.Policy.{Policy}
 use Rattle.x509_core.specs.declared.error.CertError.{CertError}
-use Rattle.picky_check.specs.Options.{CheckOptions}
+use Rattle.program_frame.specs.Options.{CheckOptions}
 use Rattle.picky_check.specs.Headline.{IsGivenList, IsVouchedFor, IsVouchedSignature}
-use Rattle.picky_check.specs.Answer.{AnswersRead, IsAnswerTo, table_in}
-use Rattle.picky_check.specs.ReadFiles.{HandsOut, total_length}
+use Rattle.picky_check.specs.Answer.{IsAnswerTo, commands, table_in}
+use Rattle.program_frame.specs.ReadFiles.{HandsOut, total_length}
 use Rattle.picky_check.specs.ChainHeadline.{IsVouchedChain}
-use Rattle.picky_check.specs.Limits.{AreWholeFiles}
-use Rattle.picky_check.specs.ListOption.{AskedList, list_files}
+use Rattle.program_frame.specs.Limits.{AreWholeFiles}
+use Rattle.program_frame.specs.ListOption.{AskedList, list_files}
 use Rattle.picky_check.specs.Policies.{check_policy}
 use Rattle.picky_check.specs.Report.{Answer, OfSignature, OfChain, accepted_line, parents_line, report_line, status_of}
-use Rattle.picky_check.specs.Run.{IsRunAnswer}
-use Rattle.picky_check.specs.Shelf.{Files, ShelfState}
+use Rattle.program_frame.specs.Question.{Line}
+use Rattle.program_frame.specs.Run.{IsRunAnswer}
+use Rattle.program_frame.specs.Shelf.{Files, ShelfState}
 use Rattle.picky_check.specs.SignatureAnswer.{IsListAnswer}
-use Rattle.picky_check.specs.Sink.{Appends}
+use Rattle.program_frame.specs.Sink.{Appends}
 use Rattle.picky_check.specs.Vouched.{IsVouched}
 use Rattle.picky_check.specs.Words.{Job, Basic, Check, Chain, AsksFor, files_of}
 use Rattle.picky_check.proofs.VouchedChains.{vouched_chain}
@@ -117,23 +118,29 @@ module _ (one_signed_data : (octets : List ℕ) (f g : SignedDataElements) → H
   no_signature_for_chain table date names [] rows given is_answer = is_answer
   no_signature_for_chain table date names (text ∷ octets) rows given is_answer = is_answer
 
-  vouched_for_job : (job : Job) (answer : Answer) → AsksFor words job → AnswersRead shelf shelf_now job answer → status_of answer ≡ 0
-      → Appends held (report_line answer) held_now → IsVouched words shelf shelf_now held held_now
-  vouched_for_job (Basic signature table hash) (OfSignature (Ok a)) asked h zero written =
-      inl (of_basic signature table hash h.is_answered.contents h.is_answered.rows a asked h.is_answered.are_files h.is_answered.is_table h.is_answered.is_answer h.given written)
-  vouched_for_job (Basic signature table hash) (OfSignature (Err e)) asked h zero written = absurd (omega arith)
-  vouched_for_job (Basic signature table hash) (OfChain given) asked h zero written = absurd (no_chain_for_basic signature table hash h.is_answered.contents h.is_answered.rows given h.is_answered.is_answer)
-  vouched_for_job (Check signature table hash date options) (OfSignature (Ok a)) asked h zero written =
-      inr (inl (of_check signature table hash date options h.is_answered.contents h.is_answered.rows a asked h.is_answered.are_files h.is_answered.is_table h.is_answered.is_answer h.given written))
-  vouched_for_job (Check signature table hash date options) (OfSignature (Err e)) asked h zero written = absurd (omega arith)
-  vouched_for_job (Check signature table hash date options) (OfChain given) asked h zero written =
-      absurd (no_chain_for_check signature table hash date options h.is_answered.contents h.is_answered.rows given h.is_answered.is_answer)
-  vouched_for_job (Chain table date names) (OfChain (Ok count)) asked h zero written =
-      inr (inr (of_chain table date names h.is_answered.contents h.is_answered.rows count asked h.is_answered.are_files h.is_answered.is_table h.is_answered.is_answer h.given written))
-  vouched_for_job (Chain table date names) (OfChain (Err e)) asked h zero written = absurd (omega arith)
-  vouched_for_job (Chain table date names) (OfSignature given) asked h zero written =
-      absurd (no_signature_for_chain table date names h.is_answered.contents h.is_answered.rows given h.is_answered.is_answer)
+  module _ (contents : List (List ℕ)) (rows : List VerdictRow) (given : HandsOut (total_length contents) shelf shelf_now) where
+    vouched_for_job : (job : Job) (answer : Answer) → AsksFor words job → AreWholeFiles shelf.files (files_of job) contents → IsTable (table_in job contents) rows
+        → IsAnswerTo (verdict_of rows) job contents answer → status_of answer ≡ 0 → Appends held (report_line answer) held_now → IsVouched words shelf shelf_now held held_now
+    vouched_for_job (Basic signature table hash) (OfSignature (Ok a)) asked are is_table is_answer zero written =
+        inl (of_basic signature table hash contents rows a asked are is_table is_answer given written)
+    vouched_for_job (Basic signature table hash) (OfSignature (Err e)) asked are is_table is_answer zero written = absurd (omega arith)
+    vouched_for_job (Basic signature table hash) (OfChain count) asked are is_table is_answer zero written =
+        absurd (no_chain_for_basic signature table hash contents rows count is_answer)
+    vouched_for_job (Check signature table hash date options) (OfSignature (Ok a)) asked are is_table is_answer zero written =
+        inr (inl (of_check signature table hash date options contents rows a asked are is_table is_answer given written))
+    vouched_for_job (Check signature table hash date options) (OfSignature (Err e)) asked are is_table is_answer zero written = absurd (omega arith)
+    vouched_for_job (Check signature table hash date options) (OfChain count) asked are is_table is_answer zero written =
+        absurd (no_chain_for_check signature table hash date options contents rows count is_answer)
+    vouched_for_job (Chain table date names) (OfChain (Ok count)) asked are is_table is_answer zero written =
+        inr (inr (of_chain table date names contents rows count asked are is_table is_answer given written))
+    vouched_for_job (Chain table date names) (OfChain (Err e)) asked are is_table is_answer zero written = absurd (omega arith)
+    vouched_for_job (Chain table date names) (OfSignature a) asked are is_table is_answer zero written =
+        absurd (no_signature_for_chain table date names contents rows a is_answer)
 
-  pub vouched_for : (answer : Answer) → IsRunAnswer words shelf shelf_now answer → status_of answer ≡ 0 → Appends held (report_line answer) held_now
+  pub vouched_for : (line : Line) → IsRunAnswer commands words shelf shelf_now line → line.status ≡ 0 → Appends held line.text held_now
       → IsVouched words shelf shelf_now held held_now
-  vouched_for answer h zero written = vouched_for_job h.is_answer.0 answer h.is_answer.1 h.is_answer.2 zero written
+  vouched_for line h zero written =
+      let read = h.2 in
+      let told = read.is_answered.is_answer in
+      vouched_for_job read.is_answered.contents told.rows read.given h.0 told.answer h.1 read.is_answered.are_files told.is_table told.is_answer (sym told.status ∙ zero)
+      (subst (λ (text : List ℕ). Appends held text held_now) told.text written)

@@ -1,17 +1,16 @@
--- The result for the files of a job, or that the verdict table has a bad line.
-use Rattle.std.specs.Prelude.{ℕ, List, [], ◌∷◌, Option}
+-- The result for the files of a job, or that the verdict table has a bad line; the program.
+use Rattle.std.specs.Prelude.{◌≡◌, ℕ, List, [], ◌∷◌}
 use Rattle.asn1_types.specs.declared.generalized_time.GeneralizedTime.{GeneralizedTime}
 use Rattle.sig_core.specs.declared.verdict_row.VerdictRow.{VerdictRow}
 use Rattle.sig_core.specs.VerdictTable.{IsTable, IsFirstBadLine, verdict_of}
 use Rattle.key_core.specs.Verifying.{Judge}
 use Rattle.picky_check.specs.ChainAnswer.{IsChainAnswer}
-use Rattle.picky_check.specs.Limits.{AreWholeFiles}
+use Rattle.program_frame.specs.Question.{Line, Question}
+use Rattle.program_frame.specs.Run.{Program}
 use Rattle.picky_check.specs.Policies.{basic_policy, check_policy}
-use Rattle.picky_check.specs.Report.{Answer, OfSignature, OfChain}
-use Rattle.picky_check.specs.ReadFiles.{HandsOut, total_length}
-use Rattle.picky_check.specs.Shelf.{Files, ShelfState}
+use Rattle.picky_check.specs.Report.{Answer, OfSignature, OfChain, WantsMemory, report_line, status_of}
 use Rattle.picky_check.specs.SignatureAnswer.{IsListAnswer, IsSignatureAnswer}
-use Rattle.picky_check.specs.Words.{Job, Basic, Check, Chain, files_of}
+use Rattle.picky_check.specs.Words.{Job, Basic, Check, Chain, AsksFor, files_of}
 
 -- the text of the verdict table, among the contents of the files
 abbrev pub table_in : Job → List (List ℕ) → List ℕ
@@ -35,31 +34,29 @@ IsAnswerTo judge (Chain table date certificates) (text ∷ octets) answer =
     IsCertificateAnswer judge date octets answer
 IsAnswerTo judge job contents answer = ⊥
 
--- The result of a job, with the verdicts of its table. The contents are those of the named files,
--- as far as the shelf exposes its files.
-pub record IsAnswered (files : Option Files) (job : Job) (answer : Answer) : Type 0 where
-  pub contents : List (List ℕ)
+-- The line reports the result of a job for the contents of its files, with the verdicts of its table.
+-- Out of memory isn't reported.
+pub record IsAnswerLine (job : Job) (contents : List (List ℕ)) (line : Line) : Type 0 where
+  pub answer : Answer
   pub rows : List VerdictRow
-  pub are_files : AreWholeFiles files (files_of job) contents
   pub is_table : IsTable (table_in job contents) rows
   pub is_answer : IsAnswerTo (verdict_of rows) job contents answer
+  pub reportable : WantsMemory answer → ⊥
+  pub status : line.status ≡ status_of answer
+  pub text : line.text ≡ report_line answer
 
--- The files of a job, whose table has a bad line: they are the named files, as far as the shelf
--- exposes its files.
-pub record HasBadTable (files : Option Files) (job : Job) : Type 0 where
-  pub contents : List (List ℕ)
-  pub number : ℕ
-  pub are_files : AreWholeFiles files (files_of job) contents
-  pub bad_line : IsFirstBadLine (table_in job contents) number
+-- the table of a job has a bad line
+abbrev pub HasBadLine : Job → (contents : List (List ℕ)) → Type 0
+HasBadLine job contents = (number : ℕ) × IsFirstBadLine (table_in job contents) number
 
--- ---- where exactly the octets of the files were handed out
+-- a job, as a question about its files
+abbrev pub question_of : Job → Question
+question_of job = record {
+  files = files_of job;
+  HasBadLine = HasBadLine job;
+  IsAnswer = IsAnswerLine job;
+}
 
--- The result of a job, for files that were read.
-pub record AnswersRead (before after : ShelfState) (job : Job) (answer : Answer) : Type 0 where
-  pub is_answered : IsAnswered before.files job answer
-  pub given : HandsOut (total_length is_answered.contents) before after
-
--- A table with a bad line, among files that were read.
-pub record FindsBadTable (before after : ShelfState) (job : Job) : Type 0 where
-  pub has_bad_table : HasBadTable before.files job
-  pub given : HandsOut (total_length has_bad_table.contents) before after
+-- the program: its table of commands
+abbrev pub commands : Program Job
+commands = record { AsksFor = AsksFor; question_of = question_of }

@@ -11,11 +11,11 @@ use Rattle.x509_core.specs.declared.cert_type.CertType.TheVariants as types
 use Rattle.x509_core.specs.declared.window.DateCheck.TheVariants as dates
 use Rattle.x509_core.specs.declared.window.Window.{Window}
 use Rattle.picky_check.specs.ChainAnswer.{AreKeptCertificates}
-use Rattle.picky_check.specs.Limits.{IsWholeFile, AreWholeFiles}
+use Rattle.program_frame.specs.Limits.{IsWholeFile, AreWholeFiles}
 use Rattle.picky_check.specs.Report.{parents_line}
-use Rattle.picky_check.specs.ReadFiles.{HandsOut, total_length}
-use Rattle.picky_check.specs.Shelf.{ShelfState}
-use Rattle.picky_check.specs.Sink.{Appends}
+use Rattle.program_frame.specs.ReadFiles.{HandsOut, total_length}
+use Rattle.program_frame.specs.Shelf.{ShelfState}
+use Rattle.program_frame.specs.Sink.{Appends}
 use Rattle.picky_check.specs.Words.{Chain, AsksFor}
 
 -- a certificate must be valid at this moment: already, and still

@@ -11,15 +11,15 @@ use Rattle.authenticode_core.specs.SignerRules.{IsSignerVouched}
 use Rattle.authenticode_core.specs.declared.accepted.Accepted.{Accepted}
 use Rattle.authenticode_core.specs.declared.accepted.Excuse.TheVariants as excuses
 use Rattle.authenticode_core.specs.declared.ctl.CertificateTrustList.{CertificateTrustList}
-use Rattle.picky_check.specs.Options.{CheckOptions}
-use Rattle.picky_check.specs.Limits.{IsWholeFile}
-use Rattle.picky_check.specs.ListOption.{AskedList}
+use Rattle.program_frame.specs.Options.{CheckOptions}
+use Rattle.program_frame.specs.Limits.{IsWholeFile}
+use Rattle.program_frame.specs.ListOption.{AskedList}
 use Rattle.picky_check.specs.Policies.{check_policy}
-use Rattle.picky_check.specs.ReadFiles.{HandsOut, total_length}
+use Rattle.program_frame.specs.ReadFiles.{HandsOut, total_length}
 use Rattle.picky_check.specs.Report.{accepted_line}
-use Rattle.picky_check.specs.Shelf.{Files, ShelfState}
+use Rattle.program_frame.specs.Shelf.{Files, ShelfState}
 use Rattle.picky_check.specs.SignatureAnswer.{IsTrustList}
-use Rattle.picky_check.specs.Sink.{Appends}
+use Rattle.program_frame.specs.Sink.{Appends}
 use Rattle.picky_check.specs.Words.{Basic, Check, AsksFor}
 
 -- The octets of the file SIG contain one signed data, and the text of the file TABLE is a verdict

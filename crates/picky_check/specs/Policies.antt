@@ -6,8 +6,8 @@ use Rattle.authenticode_core.specs.declared.ctl.CertificateTrustList.{Certificat
 use Rattle.authenticode_core.specs.declared.policy.Policy.{Policy}
 use Rattle.x509_core.specs.declared.window.DateCheck.{DateCheck}
 use Rattle.x509_core.specs.declared.window.DateCheck.TheVariants as dates
-use Rattle.picky_check.specs.Options.{CheckOptions}
-use Rattle.picky_check.specs.ListOption.{list_moment}
+use Rattle.program_frame.specs.Options.{CheckOptions}
+use Rattle.program_frame.specs.ListOption.{list_moment}
 
 -- basic: the form, the digest HASH and the signature, without the signer's certificate and without a
 -- trust list

@@ -7,7 +7,7 @@ use Rattle.authenticode_core.specs.declared.error.CheckError.{CheckError}
 use Rattle.authenticode_core.specs.declared.error.CheckError.TheVariants as check
 use Rattle.authenticode_core.specs.RefusalName.{refusal_name}
 use Rattle.sig_core.specs.VerdictTable.{newline}
-use Rattle.picky_check.specs.Statuses as statuses
+use Rattle.program_frame.specs.Statuses as statuses
 use Rattle.x509_core.specs.ErrorName.{cert_error_name}
 use Rattle.x509_core.specs.declared.error.CertError.{CertError}
 use Rattle.x509_core.specs.declared.error.CertError.TheVariants as cert

@@ -2,7 +2,7 @@
 use Rattle.std.specs.Prelude.{◌⊎◌, ℕ, List, Option}
 use Rattle.picky_check.specs.ChainHeadline.{IsVouchedChain}
 use Rattle.picky_check.specs.Headline.{IsVouchedFor, IsVouchedSignature}
-use Rattle.picky_check.specs.Shelf.{ShelfState}
+use Rattle.program_frame.specs.Shelf.{ShelfState}
 
 -- What the words name, a signature file or a chain, is vouched for, and the line says so.
 abbrev pub IsVouched : (words : List (List ℕ)) → (shelf shelf_now : ShelfState)

@@ -3,9 +3,9 @@ use Rattle.std.specs.Prelude.{◌≡◌, ◌≤◌, ℕ, List, [], ◌∷◌, le
 use Rattle.hex.specs.Hex.{decode_of}
 use Rattle.hex.specs.declared.error.FromHexError.{FromHexError}
 use Rattle.asn1_types.specs.declared.generalized_time.GeneralizedTime.{GeneralizedTime}
-use Rattle.picky_check.specs.DateWord.{IsDateWord}
-use Rattle.picky_check.specs.ListOption.{list_files}
-use Rattle.picky_check.specs.Options.{AreOptions, CheckOptions}
+use Rattle.program_frame.specs.DateWord.{IsDateWord}
+use Rattle.program_frame.specs.ListOption.{list_files}
+use Rattle.program_frame.specs.Options.{AreOptions, CheckOptions}
 
 -- a command with its arguments
 pub data Job : Type 0 where

@@ -1,30 +1,26 @@
 //! The report about the files that the words name, or why there is none.
 
-ghost use Rattle.std.specs.Prelude.{◌≡◌, ◌⊎◌, ◌∷◌, ℕ, Err, length, map, string_bytes, IfOk, IfErr, List};
+ghost use Rattle.std.specs.Prelude.{◌≡◌, ◌≤◌, ◌⊎◌, ◌∷◌, Err, length, map, string_bytes, IfOk};
 ghost use Rattle.der_core.specs.Counts.{FailsOnce};
-ghost use Rattle.sig_core.specs.declared.verdict_row.VerdictRow.{VerdictRow};
-ghost use Rattle.sig_core.specs.VerdictTable.{IsTable, IsFirstBadLine, verdict_of};
-ghost use Rattle.picky_check.specs.Answer.{IsAnswerTo, IsCertificateAnswer, table_in};
-ghost use Rattle.picky_check.specs.Inquiry.{IsReportOf, GivesReport, GivesStop, StopsForText, IsInquiry, Inquires, Reports};
-ghost use Rattle.picky_check.specs.Jobs.{contents_held, job_held, options_held};
+ghost use Rattle.program_frame.specs.Held.{contents_held, options_held};
+ghost use Rattle.program_frame.specs.ReadFiles.{HandsOutAtMost};
+ghost use Rattle.program_frame.specs.Statuses as statuses;
+ghost use Rattle.picky_check.specs.Answer.{IsAnswerTo, IsCertificateAnswer, question_of, table_in};
+ghost use Rattle.picky_check.specs.Inquiry.{Inquires, Reports};
+ghost use Rattle.picky_check.specs.Jobs.{job_held};
 ghost use Rattle.picky_check.specs.Policies.{check_policy};
-ghost use Rattle.picky_check.specs.ReadFiles.{HandsOutAtMost};
-ghost use Rattle.picky_check.specs.Report.{Answer};
 ghost use Rattle.picky_check.specs.SignatureAnswer.{IsListAnswer, IsSignatureAnswer};
 ghost use Rattle.picky_check.specs.Words.{AsksFor, AsksForNothing, Job as AskedJob, files_of};
 
-use crate::Shelf;
 use crate::chain::check_chain;
-use crate::files::{Contents, read_files};
-use crate::options::CheckOptions;
 use crate::policies::{basic_policy, check_policy};
-use crate::report::{Report, chain_report_of, report_of};
-use crate::stop::Stop;
+use crate::report::{chain_report_of, report_of};
 use crate::words::{Job, job_of};
 use authenticode_core::{
     AuthenticodeError, CertificateTrustList, CheckError, Policy, check_wincert,
 };
 use names_core::UtcDate;
+use program_frame::{CheckOptions, Contents, Names, Report, Shelf, Stop, Task, answer};
 use sig_core::{Scheme, VerdictTable};
 use std::alloc::Global;
 use x509_core::{chains_break_no_rule, chains_have_one_answer};
@@ -39,6 +35,7 @@ pub(crate) fn inquire<F: Shelf>(
     ensures unread { AsksForNothing (map string_bytes words.now) → shelf.new ≡ shelf.old }
     ensures asked { Inquires (map string_bytes words.now)
         (F.state shelf.old) (F.state shelf.new) result }
+    ensures low { IfOk result (λ report. report.status ≤ statuses.refused) }
     ensures at_most { (asked : AskedJob) → AsksFor (map string_bytes words.now) asked
         → HandsOutAtMost (length (files_of asked)) (F.state shelf.old) (F.state shelf.new) }
     ensures once { FailsOnce (result ≡ Err Stop.Shelf)
@@ -52,36 +49,48 @@ pub(crate) fn inquire<F: Shelf>(
     }
 }
 
-/// Reads the files of a job, and reports on their contents.
-fn answer<F: Shelf>(alloc: Global, shelf: &mut F, job: &Job<'_>) -> Result<Report, Stop>
-    ensures found { IsInquiry (F.state shelf.old) (F.state shelf.new) (job_held job.now) result }
-    ensures at_most { HandsOutAtMost (length (files_of (job_held job.now)))
-        (F.state shelf.old) (F.state shelf.new) }
-    ensures once { FailsOnce (result ≡ Err Stop.Shelf)
-        (F.state shelf.old).faults (F.state shelf.new).faults }
-{
-    let contents = read_files(alloc, shelf, &job.names())?;
-    judge(alloc, job, &contents)
-}
+impl Task for Job<'_> {
+    ghost question = { λ job. question_of (job_held job) };
 
-/// The report on the contents of a job's files, by the verdict table among them.
-fn judge(alloc: Global, asked: &Job<'_>, read: &Contents) -> Result<Report, Stop>
-    ensures reported { IfOk result (λ report. (rows : List VerdictRow) × (answer : Answer)
-        × IsTable (table_in (job_held asked.now) (contents_held read.now)) rows
-        × IsAnswerTo (verdict_of rows) (job_held asked.now) (contents_held read.now) answer
-        × IsReportOf answer report) }
-    ensures stopped { IfErr result
-        (StopsForText (table_in (job_held asked.now) (contents_held read.now))) }
-    ensures only { (rows : List VerdictRow) (answer : Answer)
-        → IsTable (table_in (job_held asked.now) (contents_held read.now)) rows
-        → IsAnswerTo (verdict_of rows) (job_held asked.now) (contents_held read.now) answer
-        → GivesReport answer result }
-    ensures bad { (number : ℕ)
-        → IsFirstBadLine (table_in (job_held asked.now) (contents_held read.now)) number
-        → GivesStop Stop.BadTable result }
-{
-    let table = VerdictTable::parse(alloc, asked.table_in(read))?;
-    judge_by(alloc, asked, read, &table)
+    fn names(&self) -> Names<'_> {
+        match self {
+            Job::Basic {
+                signature,
+                table,
+                ..
+            } => Names {
+                first: signature,
+                second: table,
+                others: &[],
+            },
+            Job::Check {
+                signature,
+                table,
+                options,
+                ..
+            } => Names {
+                first: signature,
+                second: table,
+                others: options.list_file(),
+            },
+            Job::Chain {
+                table,
+                checked,
+                parents,
+                ..
+            } => Names {
+                first: table,
+                second: checked,
+                others: parents,
+            },
+        }
+    }
+
+    // The verdict table among the files has the verdicts.
+    fn report(&self, alloc: Global, read: &Contents) -> Result<Report, Stop> {
+        let table = VerdictTable::parse(alloc, self.table_in(read))?;
+        judge_by(alloc, self, read, &table)
+    }
 }
 
 impl Job<'_> {

@@ -1,14 +1,14 @@
 //! The policies of the commands for a signature file.
 
 ghost use Rattle.std.specs.Prelude.{◌≡◌, IfOk, option_map};
-ghost use Rattle.picky_check.specs.Jobs.{list_held, options_held};
-ghost use Rattle.picky_check.specs.ListOption.{list_moment};
+ghost use Rattle.program_frame.specs.Held.{list_held, options_held};
+ghost use Rattle.program_frame.specs.ListOption.{list_moment};
 ghost use Rattle.picky_check.specs.Policies.{basic_policy, check_policy, moments};
 
-use crate::options::{CheckOptions, ListOption};
 use authenticode_core::{CertificateTrustList, DateCheck, Policy};
 use der_core::Octets;
 use names_core::{NameList, UtcDate};
+use program_frame::{CheckOptions, ListOption};
 use std::alloc::{AllocError, Global};
 
 /// The policy of `basic`: the signer's certificate isn't checked.

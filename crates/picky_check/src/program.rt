@@ -1,22 +1,17 @@
 //! A run of the program: words, files, report, and exit status.
 
-ghost use Rattle.std.specs.Prelude.{◌≡◌, ◌⊎◌, length, map, string_bytes};
-ghost use Rattle.std.specs.IoError.{error_kind};
-ghost use Rattle.der_core.specs.Counts.{HasRisen, FailsOnce};
-ghost use Rattle.picky_check.specs.ReadFiles.{HandsOutAtMost};
+ghost use Rattle.std.specs.Prelude.{◌≡◌, length, map, string_bytes};
+ghost use Rattle.der_core.specs.Counts.{FailsOnce};
+ghost use Rattle.program_frame.specs.ReadFiles.{HandsOutAtMost};
 ghost use Rattle.picky_check.specs.Run.{IsRun};
-ghost use Rattle.picky_check.specs.Sink.{Appends, IsCutShort};
-ghost use Rattle.picky_check.specs.Statuses as statuses;
+ghost use Rattle.program_frame.specs.Statuses as statuses;
 ghost use Rattle.picky_check.specs.Vouched.{IsVouched};
 ghost use Rattle.picky_check.specs.Words.{AsksFor, AsksForNothing, Job, files_of};
 
 use crate::inquiry::inquire;
-use crate::report::Report;
-use crate::stop::{OUT_OF_MEMORY, SINK_FAILED, USAGE};
-use crate::{Shelf, Sink, write_report};
 use authenticode_core::one_signed_data;
+use program_frame::{Shelf, Sink, deliver};
 use std::alloc::Global;
-use std::io::{Error, ErrorKind};
 
 /// Runs the command that the words request, with files of the shelf; writes one line to the sink if
 /// there is a result, and returns the exit status, one of the constants here.
@@ -45,36 +40,5 @@ pub fn run<F: Shelf, O: Sink>(alloc: Global, words: &[String], shelf: &mut F, ou
     match inquire(alloc, words, shelf) {
         Ok(report) => deliver(out, &report),
         Err(stop) => stop.status(),
-    }
-}
-
-/// Writes the line of a report. Returns the report's status if the sink accepted all of it.
-fn deliver<O: Sink>(out: &mut O, report: &Report) -> u8
-    ensures delivered { ((result ≡ report.now.status)
-        × Appends (O.state out.old).held (string_bytes report.now.line) (O.state out.new).held)
-        ⊎ ((result ≡ statuses.sink_failed)
-        × HasRisen (O.state out.old).faults (O.state out.new).faults
-        × IsCutShort (string_bytes report.now.line) (O.state out.old) (O.state out.new)) }
-    ensures once { FailsOnce (result ≡ statuses.sink_failed) (O.state out.old).faults
-        (O.state out.new).faults }
-{
-    match write_report(out, report.line.as_str()) {
-        Ok(()) => report.status,
-        Err(_) => SINK_FAILED,
-    }
-}
-
-/// The exit status if the words of the command line aren't available, by the reason: out of memory,
-/// or a word that isn't UTF-8, which is a usage error.
-pub fn status_without_words(reason: &Error) -> u8
-    ensures memory { error_kind reason.now ≡ ErrorKind.OutOfMemory
-        → result ≡ statuses.out_of_memory }
-    ensures usage { (error_kind reason.now ≡ ErrorKind.OutOfMemory → ⊥)
-        → result ≡ statuses.usage }
-{
-    if reason.kind() == ErrorKind::OutOfMemory {
-        OUT_OF_MEMORY
-    } else {
-        USAGE
     }
 }

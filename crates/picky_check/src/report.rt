@@ -4,17 +4,10 @@ ghost use Rattle.std.specs.Prelude.{◌≡◌, ◌++◌, IfOk, OnOk, string_byte
 ghost use Rattle.picky_check.specs.Inquiry.{IsReported};
 ghost use Rattle.picky_check.specs.Report.{OfChain, OfSignature, accepted_line, excuse_word, parents_line, places_text, refused_chain_line, refused_line};
 
-use crate::stop::{ACCEPTED, REFUSED, Stop};
 use authenticode_core::{Accepted, CheckError, Excuse};
+use program_frame::{ACCEPTED, REFUSED, Report, Stop};
 use std::alloc::{AllocError, Global};
 use x509_core::CertError;
-
-/// The line of a run, and its exit status.
-#[derive(Debug, Drop)]
-pub(crate) struct Report {
-    pub(crate) status: u8,
-    pub(crate) line: String,
-}
 
 /// The report of the result for a signature file.
 pub(crate) fn report_of(

@@ -1,13 +1,11 @@
 //! The commands of the command line.
 
 ghost use Rattle.std.specs.Prelude.{◌≡◌, Some, None, map, IfOk, IfSome, IsErr, IsSome, MatchOption, option_map, string_bytes, ◌∷◌, codes, Ok};
-ghost use Rattle.picky_check.specs.Jobs.{job_held, names_held};
-ghost use Rattle.picky_check.specs.Words.{AsksFor, AsksForNothing, Job as AskedJob, files_of, asked_hash};
+ghost use Rattle.picky_check.specs.Jobs.{job_held};
+ghost use Rattle.picky_check.specs.Words.{AsksFor, AsksForNothing, Job as AskedJob, asked_hash};
 
-use crate::dates::date_of;
-use crate::files::Names;
-use crate::options::{CheckOptions, options_of};
 use names_core::UtcDate;
+use program_frame::{CheckOptions, date_of, options_of};
 use std::alloc::{AllocError, Global};
 
 /// The maximal length of a hash, in octets.
@@ -41,45 +39,6 @@ pub(crate) enum Job<'a> {
         checked: &'a str,
         parents: &'a [String],
     },
-}
-
-impl Job<'_> {
-    /// The names of its files, in the order of reading.
-    pub(crate) fn names(&self) -> Names<'_>
-        ensures { names_held result ≡ files_of (job_held self.now) }
-    {
-        match self {
-            Job::Basic {
-                signature,
-                table,
-                ..
-            } => Names {
-                first: signature,
-                second: table,
-                others: &[],
-            },
-            Job::Check {
-                signature,
-                table,
-                options,
-                ..
-            } => Names {
-                first: signature,
-                second: table,
-                others: options.list_file(),
-            },
-            Job::Chain {
-                table,
-                checked,
-                parents,
-                ..
-            } => Names {
-                first: table,
-                second: checked,
-                others: parents,
-            },
-        }
-    }
 }
 
 /// Parses the words, by the table of commands. Nothing is allocated if they are no command.

@@ -14,6 +14,7 @@ mod of_name_types;
 mod of_names_core;
 mod of_picky_check;
 mod of_private_key_types;
+mod of_program_frame;
 mod of_request_types;
 mod of_sig_core;
 mod of_trust_list;

@@ -1,6 +1,6 @@
 use Rattle.std.proofs.Common.{map, sym}
 use Rattle.std.proofs.lemmas.Result.{IfErr-weaker, on_ok_weaker, err_from_is_err_and}
-use Rattle.picky_check.proofs.AskedWords.{behind, words_are}
+use Rattle.program_frame.proofs.WordLists.{behind, words_are}
 use Rattle.picky_check.proofs.ReadCertificates.{unkept, later_unread, read_behind}
 use Rattle.picky_check.proofs.chain.+read_certificates.Goals as goal
 

@@ -3,10 +3,10 @@ use Rattle.std.proofs.lemmas.Result.{err_from_is_err_and}
 use Rattle.authenticode_core.specs.ContentRefusal.{told_of_content}
 use Rattle.authenticode_core.specs.declared.policy.Policy.{Policy}
 use Rattle.picky_check.specs.Inquiry.{Reports}
-use Rattle.picky_check.specs.Jobs.{options_held}
+use Rattle.program_frame.specs.Held.{options_held}
 use Rattle.picky_check.specs.Policies.{check_policy}
 use Rattle.picky_check.specs.SignatureAnswer.{IsListAnswer, IsSignatureAnswer}
-use Rattle.picky_check.proofs.AskedWords.{behind, words_are}
+use Rattle.program_frame.proofs.WordLists.{behind, words_are}
 use Rattle.picky_check.proofs.ListAnswers.{read_reported, unread_reported}
 use Rattle.picky_check.proofs.inquiry.judge_listed.Goals as goal
 

@@ -1,23 +1,23 @@
 use Rattle.std.proofs.Common.{◌∙◌, ap, arith}
-use Rattle.x509_core.proofs.NoRefusal.{one_error}
-use Rattle.picky_check.specs.Stops.{status_for}
-use Rattle.picky_check.proofs.Failing.{failed_as, none_failed, stands}
-use Rattle.picky_check.proofs.Runs.{IsRun-stopped, IsRun-delivered}
+use Rattle.picky_check.specs.Answer.{commands}
 use Rattle.picky_check.proofs.Vouching.{vouched_for}
+use Rattle.program_frame.proofs.Failing.{failed_as, none_failed, one_error, stands}
+use Rattle.program_frame.proofs.Runs.{IsRun-stopped, IsRun-delivered}
+use Rattle.program_frame.specs.Stops.{status_for}
 use Rattle.picky_check.proofs.program.run.Goals as goal
 
 pub returns-in-Ok-clause-ends : goal.returns-in-Ok-clause-ends
 returns-in-Ok-clause-ends g c =
-    IsRun-delivered _ _ _ c.in-Ok.ensures.settled c.in-Ok.report c.in-Ok.ensures.usage c.in-Ok.ensures.asked _ _ c.deliver.result c.deliver.ensures.delivered
+    IsRun-delivered commands _ _ _ c.in-Ok.ensures.settled c.in-Ok.report c.in-Ok.ensures.usage c.in-Ok.ensures.asked c.in-Ok.ensures.low _ _ c.deliver.result c.deliver.ensures.delivered
 
 pub returns-in-Ok-clause-vouched_for : goal.returns-in-Ok-clause-vouched_for
 returns-in-Ok-clause-vouched_for g c zero =
     let h = (returns-in-Ok-clause-ends g c).reported (omega (arith, zero)) in
-    vouched_for c.one_signed_data.ensures _ _ _ _ _ h.answer h.is_answer (h.is_status ∙ zero) h.has_line
+    vouched_for c.one_signed_data.ensures _ _ _ _ _ h.line h.is_answer (h.is_status ∙ zero) h.has_line
 
 pub returns-in-Err-clause-ends : goal.returns-in-Err-clause-ends
 returns-in-Err-clause-ends g c =
-    rw c.status.ensures (IsRun-stopped _ _ _ c.in-Err.ensures.settled c.in-Err.stop c.in-Err.ensures.usage c.in-Err.ensures.asked _)
+    rw c.status.ensures (IsRun-stopped commands _ _ _ c.in-Err.ensures.settled c.in-Err.stop c.in-Err.ensures.usage c.in-Err.ensures.asked _)
 
 pub returns-in-Ok-clause-shelf_once : goal.returns-in-Ok-clause-shelf_once
 returns-in-Ok-clause-shelf_once g c = none_failed (stands c.in-Ok.ensures.once (λ none. absurd cc))

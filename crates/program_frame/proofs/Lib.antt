@@ -1,0 +1,11 @@
+pub mod Appending
+pub mod Reading
+pub mod Failing
+pub mod WordLists
+pub mod SeveralFiles
+pub mod Adding
+pub mod DateWords
+pub mod SecondsWords
+pub mod OptionWords
+pub mod Inquiries
+pub mod Runs

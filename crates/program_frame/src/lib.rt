@@ -1,0 +1,34 @@
+//! What the programs stand on: files from a shelf and a report to a sink, the exit statuses, and
+//! the words of a command line.
+#![tactic(auto)]
+
+mod dates;
+mod disk;
+mod error;
+mod files;
+mod memory;
+mod options;
+mod report;
+mod seconds;
+mod shelf;
+mod sink;
+mod stop;
+mod stored;
+mod stream;
+mod task;
+
+pub use dates::date_of;
+pub use disk::{DirShelf, OutSink, Paths};
+pub use error::FileError;
+pub use files::{Contents, Names, read_file, read_files, write_report};
+pub use memory::{MemShelf, MemSink};
+pub use options::{CheckOption, CheckOptions, ListOption, options_of};
+pub use report::{Report, deliver};
+pub use shelf::{Failed, Shelf};
+pub use sink::Sink;
+pub use stop::{
+    ACCEPTED, BAD_TABLE, OUT_OF_MEMORY, REFUSED, SHELF_FAILED, SINK_FAILED, Stop, TOO_LONG, USAGE,
+    status_without_words,
+};
+pub use stream::{Opener, ReaderShelf, WriterSink};
+pub use task::{Task, answer};
