@@ -1,0 +1,13 @@
+use Rattle.std.proofs.Common.{arith, ap, sym, ◌∙◌}
+use Rattle.std.specs.Int.{w16, from_le_bytes}
+use Rattle.pe_core.specs.Fields.{u16_at}
+use Rattle.pe_core.proofs.Numbers.{two_at}
+use Rattle.pe_core.proofs.fields.u16_at.Goals as goal
+
+pub returns : goal.returns
+unfolding u16_at
+returns c =
+    let found = c.in_ok-get.ensures.lookup.0 in
+    let enough = c.in-len2-up.len_at_least in
+    let octets = two_at c.args.bytes.now c.in_ok-get.field-0.now c.args.offset found.2 enough in
+    (omega (arith, found.3, enough), c.from_le_bytes.ensures ∙ sym (ap (from_le_bytes w16) octets))
