@@ -92,9 +92,9 @@ module _ (judge : Judge) (p : Policy) (f : SignedDataElements) where
   lasts x y same bag signer path excuses.Bag h = (h.0, excused x y same bag signer path excuses.Bag h.1)
   lasts x y same bag signer path excuses.Token h = (h.0, excused x y same bag signer path excuses.Token h.1)
 
-  standing : (x y : Lent) → AreSame x y → (bag : List CertificateElements) (signer : KeptCertificate) (path : List ℕ) (excuse : Excuse)
+  valid_there : (x y : Lent) → AreSame x y → (bag : List CertificateElements) (signer : KeptCertificate) (path : List ℕ) (excuse : Excuse)
       → IsValidAndVouched judge (under p x) f bag signer path excuse → IsValidAndVouched judge (under p y) f bag signer path excuse
-  standing x y same bag signer path excuse h = record { begun = h.begun; lasts = lasts x y same bag signer path excuse h.lasts; path_is = h.path_is }
+  valid_there x y same bag signer path excuse h = record { begun = h.begun; lasts = lasts x y same bag signer path excuse h.lasts; path_is = h.path_is }
 
   vouched : (x y : Lent) → AreSame x y → (a : Accepted) → IsSignerVouched judge (under p x) f a → IsSignerVouched judge (under p y) f a
   vouched x y same a h = record {
@@ -104,7 +104,7 @@ module _ (judge : Judge) (p : Policy) (f : SignedDataElements) where
     is = h.is;
     place_is = h.place_is;
     dated = h.dated;
-    valid = standing x y same h.bag h.signer a.path a.excuse h.valid;
+    valid = valid_there x y same h.bag h.signer a.path a.excuse h.valid;
   }
 
   listed : (x y : Lent) → AreSame x y → (a : Accepted) → IsSignerListed (under p x) f a → IsSignerListed (under p y) f a

@@ -34,8 +34,8 @@ IsAnswerTo judge (Chain table date certificates) (text ∷ octets) answer =
     IsCertificateAnswer judge date octets answer
 IsAnswerTo judge job contents answer = ⊥
 
--- The line reports the result of a job for the contents of its files, with the verdicts of its table.
--- Out of memory isn't reported.
+-- The line reports the result of a job for the contents of its files, with the verdicts of its
+-- table. Out of memory isn't reported.
 pub record IsAnswerLine (job : Job) (contents : List (List ℕ)) (line : Line) : Type 0 where
   pub answer : Answer
   pub rows : List VerdictRow

@@ -1,5 +1,6 @@
 -- Promises, which public contracts cite: all but those named below; first `Run`, `Vouched`.
--- Rules, which the promises rest on: `Policies`, `Answer`, `SignatureAnswer`, `ChainAnswer`, `Headline`, `ChainHeadline`.
+-- Rules, which the promises rest on: `Policies`, `Answer`, `SignatureAnswer`, `ChainAnswer`,
+-- `Headline`, `ChainHeadline`.
 -- Inside, which no public contract cites: `Jobs`, `Inquiry`.
 pub mod Words
 pub mod Policies

@@ -24,8 +24,8 @@ pub record CheckOptions : Type 0 where
   pub no_chain : Bool
   pub list : Option AskedList
 
--- The words begin with an option, and these follow it. The words after `--until` and `--list` are taken
--- literally.
+-- The words begin with an option, and these follow it. The words after `--until` and `--list` are
+-- taken literally.
 abbrev pub BeginsWithOption : CheckOption → (words rest : List (List ℕ)) → Type 0
 BeginsWithOption (Until date) words rest =
     (word : List ℕ) × (words ≡ codes "--until" ∷ word ∷ rest) × IsDateWord word date

@@ -18,8 +18,8 @@ pub record Question : Type 1 where
   -- on these contents of the files this line reports the answer
   pub IsAnswer : (contents : List (List ℕ)) → Line → Type 0
 
--- The line reports the answer. The contents are those of the named files, as far as the shelf exposes
--- its files.
+-- The line reports the answer. The contents are those of the named files, as far as the shelf
+-- exposes its files.
 pub record IsAnswered (files : Option Files) (question : Question) (line : Line) : Type 0 where
   pub contents : List (List ℕ)
   pub are_files : AreWholeFiles files question.files contents

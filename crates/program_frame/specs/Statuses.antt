@@ -1,7 +1,7 @@
 -- The exit statuses of a run.
 use Rattle.std.specs.Prelude.{ℕ}
 
--- the signature or the chain is accepted
+-- what was asked for is accepted
 abbrev pub accepted : ℕ
 accepted = 0
 

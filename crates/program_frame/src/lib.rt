@@ -1,5 +1,5 @@
-//! What the programs stand on: files from a shelf and a report to a sink, the exit statuses, and
-//! the words of a command line.
+//! What programs over files share: files from a shelf and a report to a sink, the exit statuses,
+//! and words of a command line.
 #![tactic(auto)]
 
 mod dates;

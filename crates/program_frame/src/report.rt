@@ -8,7 +8,7 @@ ghost use Rattle.program_frame.specs.Statuses as statuses;
 use crate::stop::SINK_FAILED;
 use crate::{Sink, write_report};
 
-/// The line of a run, and its exit status.
+/// The line of a run, with a newline at its end, and its exit status: ACCEPTED or REFUSED.
 #[derive(Debug, Drop)]
 pub struct Report {
     pub status: u8,

@@ -11,13 +11,13 @@ use sig_core::TableError;
 use std::alloc::{AllocError, AllocFailed};
 use std::io::{Error, ErrorKind};
 
-/// The signature is accepted.
+/// What was asked for is accepted.
 pub const ACCEPTED: u8 = 0;
-/// The signature is refused.
+/// It is refused.
 pub const REFUSED: u8 = 1;
 /// The words are no command.
 pub const USAGE: u8 = 2;
-/// The verdict table has a bad line.
+/// A text among the files has a bad line.
 pub const BAD_TABLE: u8 = 3;
 /// A file can't be read.
 pub const SHELF_FAILED: u8 = 4;
@@ -31,14 +31,20 @@ pub const OUT_OF_MEMORY: u8 = 7;
 /// Why there is nothing to report.
 #[derive(Clone, Copy, Debug)]
 pub enum Stop {
+    /// The words are no command.
     Usage,
+    /// A text among the files has a bad line.
     BadTable,
+    /// The shelf failed, or has no file of a name.
     Shelf,
+    /// A file has more than 16,777,216 octets.
     TooLong,
+    /// Out of memory.
     Memory,
 }
 
 impl Stop {
+    /// The exit status.
     pub fn status(self) -> u8
         ensures { result ≡ status_for self }
     {
