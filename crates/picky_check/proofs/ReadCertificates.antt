@@ -44,7 +44,7 @@ read_behind octets others all certificate before kept after are is pushed h = (
 pub answer_over : (judge : Judge) (date : GeneralizedTime) (octets : List ℕ) (others : List (List ℕ)) (checked : KeptCertificate) (answer : Result ℕ CertError)
     → kept_octets checked ≡ octets → IsAnswerOver judge date checked others answer → IsChainAnswer judge date (octets ∷ others) answer
 answer_over judge date octets others checked (Ok count) kept (inl unread) = absurd unread
-answer_over judge date octets others checked (Err e) kept (inl unread) = inl (inr ((checked, kept), unread))
+answer_over judge date octets others checked (Err e) kept (inl unread) = inl (later_unread octets others (octets ∷ others) e checked refl kept unread)
 answer_over judge date octets others checked answer kept (inr judged) =
     inr (checked ∷ judged.0, ap₂ (λ (x : List ℕ) (xs : List (List ℕ)). x ∷ xs) kept judged.1, judged.2)
 

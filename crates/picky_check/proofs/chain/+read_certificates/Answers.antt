@@ -1,8 +1,14 @@
 use Rattle.std.proofs.Common.{map, sym}
 use Rattle.std.proofs.lemmas.Result.{IfErr-weaker, on_ok_weaker, err_from_is_err_and}
 use Rattle.program_frame.proofs.WordLists.{behind, words_are}
-use Rattle.picky_check.proofs.ReadCertificates.{unkept, later_unread, read_behind}
+use Rattle.picky_check.proofs.ReadCertificates.{first_unread, unkept, later_unread, read_behind}
 use Rattle.picky_check.proofs.chain.+read_certificates.Goals as goal
+
+pub returns-in_err-from_der-clause-unread : goal.returns-in_err-from_der-clause-unread
+returns-in_err-from_der-clause-unread t c =
+    let p = err_from_is_err_and c.from_residual.result c.from_residual.ensures.1 in
+    let are = words_are (λ octets. octets.items) c.args.octets.now c.first-item.result c.deref.result.now c.in-len1-up.len_at_least c.first-item.is (sym c.deref.ensures.value) in
+    rw (p.1, p.2) (first_unread c.deref.result.now (map (λ octets. octets.items) (behind c.args.octets.now)) (map (λ octets. octets.items) c.args.octets.now) c.in_err-from_der.field-0.0 are c.in_err-from_der.ensures.answer)
 
 pub returns-in_err-push-clause-unread : goal.returns-in_err-push-clause-unread
 returns-in_err-push-clause-unread t c =

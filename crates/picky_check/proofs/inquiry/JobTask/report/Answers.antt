@@ -14,7 +14,7 @@ returns-clause-reported c =
     IfOk-weaker c.judge_by.result _ _ (λ report h. record {
       answer = h.0;
       rows = c.in_ok-table.table;
-      is_table = subst (λ (text : List ℕ). IsTable text _) c.table_in.ensures c.in_ok-table.ensures.table;
+      is_table = subst (λ (text : List ℕ). IsTable text c.in_ok-table.table) c.table_in.ensures c.in_ok-table.ensures.table;
       is_answer = h.1;
       reportable = h.2.reportable;
       status = h.2.status;
