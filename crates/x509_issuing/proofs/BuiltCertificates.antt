@@ -172,7 +172,7 @@ one_issuer a b e = cc
 same_payload : (unused : ℕ) (signature : List ℕ) (bits : BitString) → Primitive 0x03 (unused ∷ signature) ≡ bit_string bits → bits.payload ≡ signature
 same_payload unused signature bits e = cc
 
-signed_under : (judge : Judge) (signs : Signs) (pair : Pair) (b : CertificateBuilder) (word : ℕ) (cert parent : KeptCertificate) (is : IsBuilt (arithmetic judge signs pair) b word cert)
+pub signed_under : (judge : Judge) (signs : Signs) (pair : Pair) (b : CertificateBuilder) (word : ℕ) (cert parent : KeptCertificate) (is : IsBuilt (arithmetic judge signs pair) b word cert)
     → IsKeyPair pair is.issuer.key.now parent.certificate.tbs_certificate.subject_public_key_info → IsSignedBy judge parent.elements cert.elements
 signed_under judge signs pair b word cert parent is paired =
     let c = cert.certificate in

@@ -6,3 +6,5 @@ pub mod Arguments
 pub mod MadeCertificates
 pub mod BuiltCertificates
 pub mod IssuersGiven
+pub mod FirstExtensions
+pub mod BuiltSteps

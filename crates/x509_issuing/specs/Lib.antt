@@ -11,4 +11,5 @@ pub mod MadeExtensions
 pub mod BuiltCertificate
 pub mod BuildRefusals
 pub mod Building
+pub mod TakenStep
 pub mod Facts

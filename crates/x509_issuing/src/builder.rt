@@ -1,10 +1,11 @@
 //! Builder settings for a certificate.
 
-ghost use Rattle.std.specs.Prelude.{◌≡◌, Some, None, true, false, OnOk, OnErr, MatchOption};
+ghost use Rattle.std.specs.Prelude.{◌≡◌, ℕ, List, Some, None, true, false, OnOk, OnErr, MatchOption};
 ghost use Rattle.asn1_types.specs.declared.oids.TheConstants.{CE_SUBJECT_KEY_IDENTIFIER};
 ghost use Rattle.sig_core.specs.declared.hash.HashAlgorithm.TheVariants as hashes;
 ghost use Rattle.key_core.specs.declared.key_id.KeyIdGenMethod.TheVariants as methods;
 ghost use Rattle.key_core.specs.declared.signature_algorithm.SignatureAlgorithm.TheVariants as algorithms;
+ghost use Rattle.x509_types.specs.ExtensionParts.{HasSubjectKey};
 ghost use Rattle.x509_types.specs.FirstOfValue.{extensions_in, NoneHas};
 ghost use Rattle.x509_types.specs.declared.extension.view.ExtensionView.TheVariants as views;
 ghost use Rattle.x509_core.specs.FirstValue.{HasFirst};
@@ -206,6 +207,9 @@ impl<'a> CertificateBuilder<'a> {
     ) -> Result<(), AllocError>
         ensures ok { OnOk result
             (IsIssuedUnder issuer_cert.now issuer_key.entry self.old self.new) }
+        ensures identified { OnOk result ((key : List ℕ)
+            → HasSubjectKey issuer_cert.now.elements key
+            → self.new.authority_key_identifier ≡ Some key) }
         ensures err { OnErr result (self.new ≡ self.old) }
     {
         let name = issuer_cert.subject_name(self.alloc)?;

@@ -1,6 +1,6 @@
 //! Building the certificate, step by step.
 
-ghost use Rattle.std.specs.Prelude.{◌≡◌, [], ◌∷◌, Some, None, Err, IfOk, MatchResult};
+ghost use Rattle.std.specs.Prelude.{◌≡◌, List, [], ◌∷◌, Some, None, Err, IfOk, MatchResult};
 ghost use Rattle.asn1_types.specs.Integer.{IsUnsignedInteger};
 ghost use Rattle.asn1_types.specs.Values.{integer_contents};
 ghost use Rattle.asn1_types.specs.declared.oids.TheConstants.{CE_BASIC_CONSTRAINTS};
@@ -12,6 +12,8 @@ ghost use Rattle.key_core.specs.Keys.{info_of};
 ghost use Rattle.names_core.specs.Names.{sets_of};
 ghost use Rattle.x509_core.specs.Distinct.{AreDistinct};
 ghost use Rattle.x509_core.specs.FirstValue.{HasFirst};
+ghost use Rattle.x509_core.specs.History.{IssuingStep};
+ghost use Rattle.x509_core.specs.Issued.{IsNext};
 ghost use Rattle.x509_core.specs.KeptCertificate.{KeptCertificate};
 ghost use Rattle.x509_core.specs.Link.{IsSignedBy, signature_refusal as algorithm_refusal};
 ghost use Rattle.x509_core.specs.declared.error.CertError.{CertError};
@@ -22,6 +24,7 @@ ghost use Rattle.der_core.specs.Steps.{IsFirstUntaken, RefusesBySteps};
 ghost use Rattle.x509_issuing.specs.BuiltCertificate.{IsBuiltBy, IsIdentified, IsTbsBy, IsValidityOf, serial_of};
 ghost use Rattle.x509_issuing.specs.Building.{IsBuilt, algorithm_step, argument_steps, build_steps, given_steps};
 ghost use Rattle.x509_issuing.specs.MadeExtensions.{constraints_of};
+ghost use Rattle.x509_issuing.specs.TakenStep.{TakesStep};
 
 use super::refusing::{missing, no_algorithm};
 use super::signing::signed;
@@ -79,6 +82,10 @@ impl<'a> CertificateBuilder<'a> {
         // The first key identifiers are those of the keys, whatever a request asks for.
         ensures identified { IfOk result
             (λ cert. IsIdentified self.entry cert.certificate.tbs_certificate) }
+        // It is the next certificate of each issuing history whose step the builder takes.
+        ensures next { IfOk result (λ cert. (certificates : List KeptCertificate)
+            (step : IssuingStep) → TakesStep (S.pair scheme.now) self.entry certificates step
+            → IsNext (S.judge scheme.now) certificates step cert) }
     {
         self.built(alloc, word, scheme)
     }

@@ -1,4 +1,5 @@
 use Rattle.x509_issuing.proofs.BuiltCertificates.{all_distinct, constrained, identified, signed_by_parents}
+use Rattle.x509_issuing.proofs.BuiltSteps.{next_of}
 use Rattle.x509_issuing.proofs.builder.CertificateBuilder.build.Goals as goal
 
 pub returns-clause-linked : goal.returns-clause-linked
@@ -16,3 +17,7 @@ returns-clause-constrained g c =
 pub returns-clause-identified : goal.returns-clause-identified
 returns-clause-identified g c =
     identified (g.S.Scheme.judge c.args.scheme.now) (g.S.Scheme.signs c.args.scheme.now) (g.S.Scheme.pair c.args.scheme.now) c.args.self c.args.word c.built.result _ c.built.ensures.answer
+
+pub returns-clause-next : goal.returns-clause-next
+returns-clause-next g c =
+    next_of (g.S.Scheme.judge c.args.scheme.now) (g.S.Scheme.signs c.args.scheme.now) (g.S.Scheme.pair c.args.scheme.now) c.args.self c.args.word c.built.result _ c.built.ensures.answer
