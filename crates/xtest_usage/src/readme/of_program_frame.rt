@@ -27,6 +27,6 @@ fn reports_the_length(rt: HostRuntime) -> Result<(), Fail> {
     let mut sink = MemSink::with_room(rt.alloc(), 20)?;
     assert!(rt; run(rt.alloc(), "a", &mut shelf, &mut sink) == 0);
     assert!(rt; run(rt.alloc(), "b", &mut shelf, &mut sink) == 4);
-    assert!(rt; sink.held() == b"octets=3\n");
+    assert!(rt; sink.held() == b"octets=3\n".as_slice());
     Ok(())
 }
