@@ -13,6 +13,7 @@ mod of_key_types;
 mod of_name_types;
 mod of_names_core;
 mod of_pe_core;
+mod of_pe_image;
 mod of_picky_check;
 mod of_private_key_types;
 mod of_program_frame;
