@@ -1,0 +1,13 @@
+//! Paths to an anchor.
+
+use authenticode_core::Places;
+
+/// A path from a certificate to an anchor.
+#[derive(Debug, Drop)]
+pub struct AnchoredPath {
+    /// The indices in the pool of the parents before the anchor, nearest first. An index may be
+    /// there more than once.
+    pub pool: Places,
+    /// The index of the anchor, the last parent.
+    pub anchor: usize,
+}
