@@ -1,2 +1,6 @@
 pub mod Orders
-pub mod Accepted
+pub mod Chains
+pub mod Trails
+pub mod Paths
+pub mod Turns
+pub mod Bounds

@@ -1,5 +1,8 @@
 //! Trust anchors and their purposes.
 
+ghost use Rattle.std.specs.Prelude.{◌↔◌, IsTrue};
+ghost use Rattle.trust_anchors.specs.Anchors.{Serves};
+
 use x509_core::Cert;
 
 /// What an anchor is trusted for.
@@ -17,4 +20,16 @@ pub(crate) struct Anchor {
     pub(crate) cert: Cert,
     pub(crate) code: bool,
     pub(crate) time: bool,
+}
+
+impl Anchor {
+    /// Whether the anchor serves the purpose.
+    pub(crate) fn serves(&self, purpose: Purpose) -> bool
+        ensures { IsTrue result ↔ Serves self.now purpose }
+    {
+        match purpose {
+            Purpose::Code => self.code,
+            Purpose::Time => self.time,
+        }
+    }
 }

@@ -1,17 +1,28 @@
-//! Anchors in the order in which they were added.
+//! Anchors in the order in which they were added, and the search for a path to one.
 
-ghost use Rattle.std.specs.Prelude.{◌≡◌, ◌≤◌, ◌++◌, ◌∷◌, [], Err, IfErr, OnOk, OnErr, length};
+ghost use Rattle.std.specs.Prelude.{◌≡◌, ◌⊎◌, ◌+◌, ◌*◌, ◌<◌, ◌≤◌, ◌++◌, ◌∷◌, [], Err, IfOk, IfErr, MatchOption, OnOk, OnErr, length};
+ghost use Rattle.trust_anchors.specs.AnchoredPath.{HasNoPath, IsAnchoredPath};
+ghost use Rattle.trust_anchors.specs.FirstPath.{IsFirstPath};
 ghost use Rattle.trust_anchors.specs.Refusals.{IsRefusal};
 ghost use Rattle.trust_anchors.specs.declared.error.AnchorError.TheVariants as errors;
 
-use crate::anchor::Anchor;
+use crate::anchor::{Anchor, Purpose};
 use crate::error::AnchorError;
+use crate::path::AnchoredPath;
+use crate::search::Search;
+use crate::steps::Steps;
+use names_core::UtcDate;
+use sig_core::Scheme;
 use std::alloc::Global;
-use std::marker::Model;
-use x509_core::Cert;
+use std::marker::{Brand, Model};
+use std::sync::ledger::{Blank, Ledger};
+use x509_core::{Cert, DateCheck, Window};
 
 /// The most anchors in a store.
 const MOST_ANCHORS: usize = 64;
+
+/// The most certificates in a pool.
+const MOST_CERTIFICATES: usize = 256;
 
 /// Trust anchors, at most 64, in the order in which they were added.
 #[derive(Debug, Drop)]
@@ -69,5 +80,101 @@ impl AnchorStore {
         }
         self.anchors.push(Anchor { cert, code, time })?;
         Ok(())
+    }
+
+    /// The shortest path from the certificate to an anchor that serves the purpose, through
+    /// certificates of the pool in any order, each any number of times, at most 15 in all: each
+    /// certificate, the anchor too, is valid at the date and may have issued the one before it
+    /// (RFC 5280 6.1.3, 6.1.4; `Cert::expect_link`). Of the shortest the one with the least
+    /// indices, compared from the nearest parent on, then with the least anchor. None exactly if
+    /// there is no path. `TooMany` comes exactly if the pool has more than 256 certificates.
+    pub fn find<S: Scheme>(
+        &self,
+        alloc: Global,
+        cert: &Cert,
+        pool: &[Cert],
+        purpose: Purpose,
+        date: &UtcDate,
+        scheme: &S,
+    ) -> Result<Option<AnchoredPath>, AnchorError>
+        ensures found { IfOk result (λ found. MatchOption found
+            (HasNoPath
+            (IsAnchoredPath (S.judge scheme.now) date.now cert.now pool.now self.now purpose))
+            (IsFirstPath
+            (IsAnchoredPath (S.judge scheme.now) date.now cert.now pool.now self.now purpose))) }
+        ensures many { 256 < length pool.now → result ≡ Err (errors.TooMany (length pool.now)) }
+        ensures refused { IfErr result (IsRefusal (256 < length pool.now) (length pool.now)) }
+    {
+        self.find_from::<S, Brand>(alloc, cert, pool, purpose, date, scheme, Blank::new(1))
+    }
+
+    /// `find`, and the number of signatures that it verified, by any ledger: at most
+    /// 16 (n + 1) (n + m) for n certificates in the pool and m anchors.
+    pub fn find_counted<S: Scheme, L: Ledger>(
+        &self,
+        alloc: Global,
+        cert: &Cert,
+        pool: &[Cert],
+        purpose: Purpose,
+        date: &UtcDate,
+        scheme: &S,
+        steps: &mut Steps<L>,
+    ) -> Result<Option<AnchoredPath>, AnchorError>
+        ensures found { IfOk result (λ found. MatchOption found
+            (HasNoPath
+            (IsAnchoredPath (S.judge scheme.now) date.now cert.now pool.now self.now purpose))
+            (IsFirstPath
+            (IsAnchoredPath (S.judge scheme.now) date.now cert.now pool.now self.now purpose))) }
+        ensures many { 256 < length pool.now → result ≡ Err (errors.TooMany (length pool.now)) }
+        ensures refused { IfErr result (IsRefusal (256 < length pool.now) (length pool.now)) }
+        ensures counted { steps.new
+            ≤ steps.old + 16 * ((length pool.now + 1) * (length pool.now + length self.now)) }
+    {
+        if pool.len() > MOST_CERTIFICATES {
+            return Err(AnchorError::TooMany { count: pool.len() });
+        }
+        let window = Window {
+            date: DateCheck::Exact(*date),
+            not_before: true,
+            not_after: true,
+        };
+        if cert.expect_valid(alloc, &window).is_err() {
+            return Ok(None);
+        }
+        let search = Search {
+            cert,
+            pool,
+            anchors: &self.anchors,
+            purpose,
+            window,
+            scheme,
+        };
+        Ok(search.first_path(alloc, steps)?)
+    }
+
+    /// `find`, by a new ledger.
+    fn find_from<S: Scheme, L: Ledger>(
+        &self,
+        alloc: Global,
+        cert: &Cert,
+        pool: &[Cert],
+        purpose: Purpose,
+        date: &UtcDate,
+        scheme: &S,
+        blank: Blank,
+    ) -> Result<Option<AnchoredPath>, AnchorError>
+        requires name { blank.name ≡ L.name }
+        requires parts { blank.parts ≡ L.parts }
+        requires some { 0 < blank.parts }
+        ensures found { IfOk result (λ found. MatchOption found
+            (HasNoPath
+            (IsAnchoredPath (S.judge scheme.now) date.now cert.now pool.now self.now purpose))
+            (IsFirstPath
+            (IsAnchoredPath (S.judge scheme.now) date.now cert.now pool.now self.now purpose))) }
+        ensures many { 256 < length pool.now → result ≡ Err (errors.TooMany (length pool.now)) }
+        ensures refused { IfErr result (IsRefusal (256 < length pool.now) (length pool.now)) }
+    {
+        let mut steps = Steps::<L>::new(blank);
+        self.find_counted(alloc, cert, pool, purpose, date, scheme, &mut steps)
     }
 }

@@ -1,4 +1,4 @@
-use Rattle.trust_anchors.proofs.Accepted.{anchored_accepted}
+use Rattle.trust_anchors.proofs.Paths.{anchored_accepted}
 use Rattle.trust_anchors.proofs.laws.anchored_paths_are_accepted.Goals as goal
 
 pub returns : goal.returns

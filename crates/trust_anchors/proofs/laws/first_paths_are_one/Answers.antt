@@ -1,4 +1,4 @@
-use Rattle.trust_anchors.proofs.Accepted.{first_once}
+use Rattle.trust_anchors.proofs.Paths.{first_once}
 use Rattle.trust_anchors.proofs.laws.first_paths_are_one.Goals as goal
 
 pub returns : goal.returns

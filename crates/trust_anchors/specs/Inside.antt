@@ -1,0 +1,2 @@
+-- What the search keeps.
+pub mod Trails
