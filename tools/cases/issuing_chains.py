@@ -66,13 +66,13 @@ def public(owner):
     return sha256(owner.encode()).digest()
 
 
-def certificate(subject, issuer, dates=LONG, *, ca=None, length=None, own=None, authority=None, by=None, inner=ED, outer=ED, changed=False, true=b"\xff"):
-    """A certificate by the key of its issuer, or of another: its flag, path length and key identifiers are left out where none are given."""
+def certificate(subject, issuer, dates=LONG, *, ca=None, length=None, own=None, authority=None, by=None, owner=None, inner=ED, outer=ED, changed=False, true=b"\xff"):
+    """A certificate for the key of its subject, by the key of its issuer, or of others: its flag, path length and key identifiers are left out where none are given."""
     flag = () if ca is None else (Primitive(1, true if ca else b"\0"),)
     listed = [extension(19, sequence(*flag, *(() if length is None else (unsigned(bytes([length])),))))]
     listed += [] if own is None else [extension(14, Primitive(4, own))]
     listed += [] if authority is None else [extension(35, sequence(Primitive(0x80, authority)))]
-    key = read_exact(signatures.spki("ed", ED25519, public(subject)))
+    key = read_exact(signatures.spki("ed", ED25519, public(owner or subject)))
     tbs = sequence(
         Constructed(0xA0, (Primitive(2, b"\2"),)), Primitive(2, b"\1"), inner, name(issuer), sequence(*map(moment, days(*dates)[1])), name(subject), key,
         Constructed(0xA3, (sequence(*listed),)),
