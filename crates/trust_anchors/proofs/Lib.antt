@@ -4,3 +4,4 @@ pub mod Trails
 pub mod Paths
 pub mod Turns
 pub mod Bounds
+pub mod PathExamples
