@@ -139,7 +139,7 @@ BEFORE = [
     ("two signers", {"copies": 2}, refused("MultipleSignerInfo", "the signed data has 2 signers, and not one"), True),
     ("no digest algorithm", {"listed": ()}, refused("IncorrectDigestAlgorithmsCount", "the signed data has 0 digest algorithms, and not one"), True),
     ("no content", {"content": DATA_ALONE}, refused("NoEncapsulatedContentInfo", "the signed data has no content"), True),
-    ("another content", {"content": DATA_CONTENT}, refused("NoSpcIndirectDataContent", "what is signed does not stand for a file"), True),
+    ("another content", {"content": DATA_CONTENT}, refused("NoSpcIndirectDataContent", "what is signed is no SpcIndirectDataContent"), True),
     ("another digest algorithm of the content", {"of_content": WITHOUT_NULL}, refused("DigestAlgorithmMismatch", "the signed data names several digest algorithms"), True),
     ("another digest algorithm of the signer", {"of_signer": WITHOUT_NULL}, refused("DigestAlgorithmMismatch", "the signed data names several digest algorithms"), True),
     ("another digest of the file", {"file_digest": OTHER_HASH}, refused(

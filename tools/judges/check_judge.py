@@ -95,7 +95,7 @@ TEXTS = {
     "MultipleSignerInfo": "the signed data has {0} signers, and not one",
     "IncorrectDigestAlgorithmsCount": "the signed data has {0} digest algorithms, and not one",
     "NoEncapsulatedContentInfo": "the signed data has no content",
-    "NoSpcIndirectDataContent": "what is signed does not stand for a file",
+    "NoSpcIndirectDataContent": "what is signed is no SpcIndirectDataContent",
     "DigestAlgorithmMismatch": "the signed data names several digest algorithms",
     "MissingExpectedFileHash": "no digest of the file is given",
     "FileHashMismatch": "the signature is for a file with the digest {0}, but that of the file is {1}",

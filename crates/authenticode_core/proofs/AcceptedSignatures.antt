@@ -32,9 +32,9 @@ module _ (judge : Judge) (g : SignerElements) (hash : HashAlgorithm) (c : Certif
     accepted = subst (λ (m : List ℕ). Accepts judge (RsaPkcs1v15 hash) info m sig) message accepted;
   }
 
-  told : (source : SignatureError) (e : AuthenticodeError) → HasKey c info → msg ≡ signed_message g → g.signature ≡ Primitive 0x04 sig
+  returned : (source : SignatureError) (e : AuthenticodeError) → HasKey c info → msg ≡ signed_message g → g.signature ≡ Primitive 0x04 sig
       → e ≡ errors.SignatureError source → IsFirstBroken (verify_rules judge (RsaPkcs1v15 hash) info msg sig) source → RefusesAuthenticodeBy (IsRefusedUnder judge g hash c ∷ []) e
-  told source e key message signature is broken =
+  returned source e key message signature is broken =
       inl (inl (record {
         info = info;
         key = key;
@@ -42,17 +42,17 @@ module _ (judge : Judge) (g : SignerElements) (hash : HashAlgorithm) (c : Certif
         octets = signature;
         source = source;
         refused = subst (λ (m : List ℕ). IsFirstBroken (verify_rules judge (RsaPkcs1v15 hash) info m sig) source) message broken;
-        told = is;
+        returned = is;
       }))
 
   broken_by : (source : SignatureError) (e : AuthenticodeError) → HasKey c info → msg ≡ signed_message g → g.signature ≡ Primitive 0x04 sig
       → e ≡ of_signatures source → IsFirstBroken (verify_rules judge (RsaPkcs1v15 hash) info msg sig) source → RefusesAuthenticodeBy (IsRefusedUnder judge g hash c ∷ []) e
-  broken_by (signature_errors.Key x) e key message signature is broken = told (signature_errors.Key x) e key message signature is broken
-  broken_by (signature_errors.Rsa x) e key message signature is broken = told (signature_errors.Rsa x) e key message signature is broken
-  broken_by (signature_errors.Ec x) e key message signature is broken = told (signature_errors.Ec x) e key message signature is broken
-  broken_by (signature_errors.Ed x) e key message signature is broken = told (signature_errors.Ed x) e key message signature is broken
-  broken_by signature_errors.BadSignature e key message signature is broken = told signature_errors.BadSignature e key message signature is broken
-  broken_by (signature_errors.UnsupportedAlgorithm x) e key message signature is broken = told (signature_errors.UnsupportedAlgorithm x) e key message signature is broken
+  broken_by (signature_errors.Key x) e key message signature is broken = returned (signature_errors.Key x) e key message signature is broken
+  broken_by (signature_errors.Rsa x) e key message signature is broken = returned (signature_errors.Rsa x) e key message signature is broken
+  broken_by (signature_errors.Ec x) e key message signature is broken = returned (signature_errors.Ec x) e key message signature is broken
+  broken_by (signature_errors.Ed x) e key message signature is broken = returned (signature_errors.Ed x) e key message signature is broken
+  broken_by signature_errors.BadSignature e key message signature is broken = returned signature_errors.BadSignature e key message signature is broken
+  broken_by (signature_errors.UnsupportedAlgorithm x) e key message signature is broken = returned (signature_errors.UnsupportedAlgorithm x) e key message signature is broken
   broken_by signature_errors.Memory e key message signature is broken = inr is
 
   pub refused_under : (source : SignatureError) (e : AuthenticodeError) → HasKey c info → msg ≡ signed_message g → g.signature ≡ Primitive 0x04 sig

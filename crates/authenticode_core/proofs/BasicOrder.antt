@@ -6,7 +6,7 @@ use Rattle.cms_types.specs.SignerElements.{SignerElements}
 use Rattle.cms_types.specs.SignerView.{signer_elements_at}
 use Rattle.der_core.specs.DerElement.{DerElement}
 use Rattle.der_core.specs.Rules.{IsMet, IsFirstBroken}
-use Rattle.der_core.proofs.RuleLists.{AreMet, AreToldOnce, IsToldOnce, NoneTells, broken_before, broken_behind, met_together, none_broken, none_together, one_broken, one_of_two, told_together}
+use Rattle.der_core.proofs.RuleLists.{AreMet, AreReturnedOnce, IsReturnedOnce, NoneReturns, broken_before, broken_behind, met_together, none_broken, none_together, one_broken, one_of_two, returned_together}
 use Rattle.key_core.specs.Verifying.{Judge}
 use Rattle.authenticode_core.specs.Basic.{IsRefusedPart, VouchesFor}
 use Rattle.authenticode_core.specs.FormRules.{FileDiffers, HasForm, form_rules}
@@ -19,7 +19,7 @@ use Rattle.authenticode_core.specs.declared.error.AuthenticodeError.{Authenticod
 use Rattle.authenticode_core.specs.declared.error.AuthenticodeError.TheVariants as errors
 use Rattle.authenticode_core.specs.declared.form.Form.{Form}
 use Rattle.authenticode_core.proofs.FormFields.{indirect_once, signer_once}
-use Rattle.authenticode_core.proofs.FormOrder.{file_told, form_met, form_tells_no_memory, form_told}
+use Rattle.authenticode_core.proofs.FormOrder.{file_returned, form_met, form_returns_no_memory, form_returned}
 use Rattle.authenticode_core.proofs.OneSigning.{one_signing_refusal, place_once, signed_breaks_no_rule}
 
 -- ---- the parts after the form
@@ -48,14 +48,14 @@ one_place judge f file_hash p q a b =
     let g = signer_once f a.g b.g a.form.signer b.form.signer in
     place_once judge f b.d b.g p q (subst (λ (x : SignerElements). IsSigned judge f b.d x p) g (subst (λ (x : IndirectData). IsSigned judge f x a.g p) d a.signed)) b.signed
 
-part_told : (judge : Judge) (f : SignedDataElements) (file_hash : List ℕ) → IsToldOnce (IsRefusedPart judge f file_hash)
-part_told judge f file_hash a b p q =
+part_returned : (judge : Judge) (f : SignedDataElements) (file_hash : List ℕ) → IsReturnedOnce (IsRefusedPart judge f file_hash)
+part_returned judge f file_hash a b p q =
     let d = indirect_once f p.0 q.0 p.2 q.2 in
     let g = signer_once f p.1 q.1 p.3 q.3 in
     let moved : IsFirstBroken (FileDiffers f file_hash ∷ signing_rules judge f q.0 q.1) a =
     subst (λ (x : SignerElements). IsFirstBroken (FileDiffers f file_hash ∷ signing_rules judge f q.0 x) a) g
     (subst (λ (x : IndirectData). IsFirstBroken (FileDiffers f file_hash ∷ signing_rules judge f x p.1) a) d p.4) in
-    one_of_two (FileDiffers f file_hash) (signing_rules judge f q.0 q.1) (file_told f file_hash) (one_signing_refusal judge f q.0 q.1) a b moved q.4
+    one_of_two (FileDiffers f file_hash) (signing_rules judge f q.0 q.1) (file_returned f file_hash) (one_signing_refusal judge f q.0 q.1) a b moved q.4
 
 part_unbroken : (judge : Judge) (f : SignedDataElements) (file_hash : List ℕ) (place : ℕ) (d : IndirectData) (g : SignerElements) (e : AuthenticodeError) → HasIndirectData f d → IsFirstSigner f g → d.digest ≡ file_hash → IsSigned judge f d g place
     → IsFirstBroken (FileDiffers f file_hash ∷ signing_rules judge f d g) e → ⊥
@@ -92,14 +92,14 @@ module _ (f : SignedDataElements) (given : Option (List ℕ)) where
   shape_met : (algorithm : DerElement) (d : IndirectData) (g : SignerElements) (hash : List ℕ) → HasForm f algorithm d g → given ≡ Some hash → AreMet (shape_rules f given)
   shape_met algorithm d g hash form is = met_together (form_rules f) (LacksHash given ∷ []) (form_met f algorithm d g form) (hash_met hash is, tt)
 
-  pub shape_told : AreToldOnce (shape_rules f given)
-  shape_told = told_together (form_rules f) (LacksHash given ∷ []) (form_told f) ((λ a b p q. p.1 ∙ sym q.1), tt)
+  pub shape_returned : AreReturnedOnce (shape_rules f given)
+  shape_returned = returned_together (form_rules f) (LacksHash given ∷ []) (form_returned f) ((λ a b p q. p.1 ∙ sym q.1), tt)
 
   no_missing : errors.Memory ≡ errors.MissingExpectedFileHash → ⊥
   no_missing e = absurd cc
 
-  pub shape_tells_no_memory : NoneTells (shape_rules f given) errors.Memory
-  shape_tells_no_memory = none_together (form_rules f) (LacksHash given ∷ []) errors.Memory (form_tells_no_memory f) ((λ p. no_missing p.1), tt)
+  pub shape_returns_no_memory : NoneReturns (shape_rules f given) errors.Memory
+  shape_returns_no_memory = none_together (form_rules f) (LacksHash given ∷ []) errors.Memory (form_returns_no_memory f) ((λ p. no_missing p.1), tt)
 
   pub form_in_shape : (e : AuthenticodeError) → IsFirstBroken (form_rules f) e → IsFirstBroken (shape_rules f given) e
   form_in_shape e broken = broken_before (form_rules f) (LacksHash given ∷ []) e broken
@@ -112,7 +112,7 @@ module _ (f : SignedDataElements) (given : Option (List ℕ)) where
 
   -- the refusal by a broken rule is the one that it reports
   pub refused_so : {A : Type 0} (r : Result A AuthenticodeError) (e : AuthenticodeError) → r ≡ Err e → IsFirstBroken (shape_rules f given) e → (x : AuthenticodeError) → IsFirstBroken (shape_rules f given) x → r ≡ Err x
-  refused_so r e is broken x other = is ∙ ap Err (one_broken (shape_rules f given) shape_told e x broken other)
+  refused_so r e is broken x other = is ∙ ap Err (one_broken (shape_rules f given) shape_returned e x broken other)
 
   -- ---- all rules
 
@@ -123,11 +123,11 @@ module _ (f : SignedDataElements) (given : Option (List ℕ)) where
         let part : IsMet (IsRefusedFor judge f given) = λ e broken. part_met judge f at.0 place v e (subst (λ (hash : List ℕ). IsRefusedPart judge f hash e) (same_hash given broken.0 at.0 broken.1 at.1) broken.2) in
         met_together (shape_rules f given) (IsRefusedFor judge f given ∷ []) (shape_met v.algorithm v.d v.g at.0 v.form at.1) (part, tt)
 
-    for_told : IsToldOnce (IsRefusedFor judge f given)
-    for_told = λ a b p q. part_told judge f q.0 a b (subst (λ (hash : List ℕ). IsRefusedPart judge f hash a) (same_hash given p.0 q.0 p.1 q.1) p.2) q.2
+    for_returned : IsReturnedOnce (IsRefusedFor judge f given)
+    for_returned = λ a b p q. part_returned judge f q.0 a b (subst (λ (hash : List ℕ). IsRefusedPart judge f hash a) (same_hash given p.0 q.0 p.1 q.1) p.2) q.2
 
-    pub basic_told : AreToldOnce (basic_rules judge f given)
-    basic_told = told_together (shape_rules f given) (IsRefusedFor judge f given ∷ []) shape_told (for_told, tt)
+    pub basic_returned : AreReturnedOnce (basic_rules judge f given)
+    basic_returned = returned_together (shape_rules f given) (IsRefusedFor judge f given ∷ []) shape_returned (for_returned, tt)
 
     -- there is one index
     pub one_vouched_place : (p q : ℕ) → IsVouchedAt judge given f p → IsVouchedAt judge given f q → p ≡ q

@@ -6,7 +6,7 @@ use Rattle.cms_types.specs.SignedDataElements.{SignedDataElements}
 use Rattle.cms_types.specs.SignerElements.{SignerElements}
 use Rattle.der_core.specs.DerElement.{DerElement}
 use Rattle.der_core.specs.Rules.{IsFirstBroken, IsMet}
-use Rattle.der_core.proofs.RuleLists.{AreMet, AreToldOnce, IsToldOnce, broken_behind, met_together}
+use Rattle.der_core.proofs.RuleLists.{AreMet, AreReturnedOnce, IsReturnedOnce, broken_behind, met_together}
 use Rattle.x509_types.specs.CertificateElements.{CertificateElements}
 use Rattle.authenticode_core.specs.AuthorityName.{IsNameAt}
 use Rattle.authenticode_core.specs.Inside.PolicySteps.{IsListedAt}
@@ -24,7 +24,7 @@ use Rattle.authenticode_core.specs.declared.error.AuthenticodeError.{Authenticod
 use Rattle.authenticode_core.specs.declared.error.AuthenticodeError.TheVariants as errors
 use Rattle.authenticode_core.specs.declared.policy.Policy.{Policy}
 use Rattle.authenticode_core.proofs.GivenLists.{given_once, none_given}
-use Rattle.authenticode_core.proofs.OnList.{name_told_once, on_list_unbroken}
+use Rattle.authenticode_core.proofs.OnList.{name_returned_once, on_list_unbroken}
 use Rattle.authenticode_core.proofs.OneCa.{ca_once}
 use Rattle.authenticode_core.proofs.OneSignerRule.{key_name_once, unknown_name_once}
 use Rattle.authenticode_core.proofs.SignerOrder.{first_met, key_name_met, named_met, named_rules}
@@ -55,19 +55,19 @@ module _ (policy : Policy) (f : SignedDataElements) where
   trusted_met : IsTrustedCaOf policy f → IsMet (HasUntrustedCa policy f)
   trusted_met trusted = λ e broken. trusted_or_off broken.0 e (trusted broken.0 broken.1) broken.2
 
-  off_once : (list : CertificateTrustList) → IsToldOnce (IsOffList policy f list)
+  off_once : (list : CertificateTrustList) → IsReturnedOnce (IsOffList policy f list)
   off_once list = λ a b p q.
       let there = subst (λ (name : DerElement). IsFirstBroken (name_rules list policy.now name) a) (ca_once f p.0 q.0 p.1 q.1) p.3 in
-      name_told_once list policy.now q.0 a b there q.3
+      name_returned_once list policy.now q.0 a b there q.3
 
-  untrusted_once : IsToldOnce (HasUntrustedCa policy f)
+  untrusted_once : IsReturnedOnce (HasUntrustedCa policy f)
   untrusted_once = λ a b p q.
       off_once q.0 a b (subst (λ (list : CertificateTrustList). IsOffList policy f list a) (given_once given p.0 q.0 p.1 q.1) p.2) q.2
 
   -- ---- each reports one error
 
-  pub ca_told : AreToldOnce (ca_rules policy f)
-  ca_told = (λ a b p q. p.1 ∙ sym q.1, (key_name_once f, (unknown_name_once f, (untrusted_once, tt))))
+  pub ca_returned : AreReturnedOnce (ca_rules policy f)
+  ca_returned = (λ a b p q. p.1 ∙ sym q.1, (key_name_once f, (unknown_name_once f, (untrusted_once, tt))))
 
   -- ---- what is listed breaks none
 

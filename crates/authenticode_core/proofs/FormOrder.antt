@@ -6,7 +6,7 @@ use Rattle.cms_types.specs.SignerElements.{SignerElements}
 use Rattle.der_core.specs.DerElement.{DerElement}
 use Rattle.der_core.specs.Elements.{sequence}
 use Rattle.der_core.specs.Rules.{IsMet}
-use Rattle.der_core.proofs.RuleLists.{AreMet, IsToldOnce, AreToldOnce, NoneTells}
+use Rattle.der_core.proofs.RuleLists.{AreMet, IsReturnedOnce, AreReturnedOnce, NoneReturns}
 use Rattle.authenticode_core.specs.FormRules.{HasForm, IsOfOtherVersion, HasOtherSigners, HasOtherAlgorithms, LacksContent, HasOtherContent, ContentDiffers, SignerDiffers, FileDiffers, form_rules}
 use Rattle.authenticode_core.specs.SameElements.{IsSameElement}
 use Rattle.authenticode_core.specs.SignedFields.{HasVersion, HasSignedContent, HasIndirectData, IndirectData, IsFirstAlgorithm, IsFirstSigner, digest_algorithms_of, indirect_kids, signers_of}
@@ -76,22 +76,22 @@ module _ (f : SignedDataElements) where
 
   -- ---- each is reported by one error
 
-  version_told : IsToldOnce (IsOfOtherVersion f)
-  version_told a b p q = p.3 ∙ ap (errors.IncorrectVersion 1) (version_once f p.0 q.0 p.1 q.1) ∙ sym q.3
+  version_returned : IsReturnedOnce (IsOfOtherVersion f)
+  version_returned a b p q = p.3 ∙ ap (errors.IncorrectVersion 1) (version_once f p.0 q.0 p.1 q.1) ∙ sym q.3
 
-  pub file_told : (file_hash : List ℕ) → IsToldOnce (FileDiffers f file_hash)
-  file_told file_hash a b p q = p.3 ∙ ap (λ (d : IndirectData). errors.FileHashMismatch d.digest file_hash) (indirect_once f p.0 q.0 p.1 q.1) ∙ sym q.3
+  pub file_returned : (file_hash : List ℕ) → IsReturnedOnce (FileDiffers f file_hash)
+  file_returned file_hash a b p q = p.3 ∙ ap (λ (d : IndirectData). errors.FileHashMismatch d.digest file_hash) (indirect_once f p.0 q.0 p.1 q.1) ∙ sym q.3
 
-  pub form_told : AreToldOnce (form_rules f)
-  form_told =
-      let same : AreToldOnce (ContentDiffers f ∷ SignerDiffers f ∷ []) = ((λ a b p q. p.5 ∙ sym q.5), ((λ a b p q. p.5 ∙ sym q.5), tt)) in
-      let content : AreToldOnce (LacksContent f ∷ HasOtherContent f ∷ ContentDiffers f ∷ SignerDiffers f ∷ []) = ((λ a b p q. p.2 ∙ sym q.2), ((λ a b p q. p.4 ∙ sym q.4), same)) in
-      (version_told, ((λ a b p q. p.1 ∙ sym q.1), ((λ a b p q. p.1 ∙ sym q.1), content)))
+  pub form_returned : AreReturnedOnce (form_rules f)
+  form_returned =
+      let same : AreReturnedOnce (ContentDiffers f ∷ SignerDiffers f ∷ []) = ((λ a b p q. p.5 ∙ sym q.5), ((λ a b p q. p.5 ∙ sym q.5), tt)) in
+      let content : AreReturnedOnce (LacksContent f ∷ HasOtherContent f ∷ ContentDiffers f ∷ SignerDiffers f ∷ []) = ((λ a b p q. p.2 ∙ sym q.2), ((λ a b p q. p.4 ∙ sym q.4), same)) in
+      (version_returned, ((λ a b p q. p.1 ∙ sym q.1), ((λ a b p q. p.1 ∙ sym q.1), content)))
 
   -- ---- out of memory is never reported
 
-  pub form_tells_no_memory : NoneTells (form_rules f) errors.Memory
-  form_tells_no_memory =
-      let same : NoneTells (ContentDiffers f ∷ SignerDiffers f ∷ []) errors.Memory = ((λ p. no_mismatch p.5), ((λ p. no_mismatch p.5), tt)) in
-      let content : NoneTells (LacksContent f ∷ HasOtherContent f ∷ ContentDiffers f ∷ SignerDiffers f ∷ []) errors.Memory = ((λ p. no_content p.2), ((λ p. no_indirect p.4), same)) in
+  pub form_returns_no_memory : NoneReturns (form_rules f) errors.Memory
+  form_returns_no_memory =
+      let same : NoneReturns (ContentDiffers f ∷ SignerDiffers f ∷ []) errors.Memory = ((λ p. no_mismatch p.5), ((λ p. no_mismatch p.5), tt)) in
+      let content : NoneReturns (LacksContent f ∷ HasOtherContent f ∷ ContentDiffers f ∷ SignerDiffers f ∷ []) errors.Memory = ((λ p. no_content p.2), ((λ p. no_indirect p.4), same)) in
       ((λ p. no_version p.0 p.3), ((λ p. no_signers p.1), ((λ p. no_algorithms p.1), content)))

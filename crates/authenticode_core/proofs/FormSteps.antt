@@ -62,9 +62,9 @@ no_other_signer f element only spelled e one none =
     none value.0 value.1
 
 pub other_signers : (f : SignedDataElements) (element : DerElement) (count : ℕ) → element ≡ f.signers_infos → length (members_of (Some element)) ≢ 1 → count ≡ length (members_of (Some element)) → HasOtherSigners f (errors.MultipleSignerInfo count)
-other_signers f element count e some told =
+other_signers f element count e some returned =
     let same = ap length (signers_are f element e) in
-    ((λ one. some (sym same ∙ one)), ap errors.MultipleSignerInfo (told ∙ sym same))
+    ((λ one. some (sym same ∙ one)), ap errors.MultipleSignerInfo (returned ∙ sym same))
 
 -- ---- the digest algorithm
 
@@ -72,9 +72,9 @@ pub the_algorithm : (f : SignedDataElements) (element only : DerElement) → ele
 the_algorithm f element only e one = ap (λ (x : DerElement). members_of (Some x)) (sym e) ∙ one
 
 pub other_algorithms : (f : SignedDataElements) (element : DerElement) (count : ℕ) → element ≡ f.digest_algorithms → length (members_of (Some element)) ≢ 1 → count ≡ length (members_of (Some element)) → HasOtherAlgorithms f (errors.IncorrectDigestAlgorithmsCount count)
-other_algorithms f element count e some told =
+other_algorithms f element count e some returned =
     let same = ap (λ (x : DerElement). length (members_of (Some x))) (sym e) in
-    ((λ one. some (sym same ∙ one)), ap errors.IncorrectDigestAlgorithmsCount (told ∙ sym same))
+    ((λ one. some (sym same ∙ one)), ap errors.IncorrectDigestAlgorithmsCount (returned ∙ sym same))
 
 -- ---- the content
 

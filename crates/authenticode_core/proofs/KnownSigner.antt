@@ -37,8 +37,8 @@ module _ (f : SignedDataElements) (g : SignerElements) (place : ℕ) (first : Is
     some_named none = none place has.0 has.1.2.later has.1.2.stands ((same has.0).1 has.1.2.fits)
 
     -- the first one with these is at the index
-    pub stands_known : (c : CertificateElements) (told : ℕ) → told ≡ place → IsFirstOfName has.1.0 issuer serial_number c → HasSigner f told c
-    stands_known c told at found =
+    pub stands_known : (c : CertificateElements) (returned : ℕ) → returned ≡ place → IsFirstOfName has.1.0 issuer serial_number c → HasSigner f returned c
+    stands_known c returned at found =
         let there = least_as has.1.0 (IsNamedBy issuer serial_number) (IsNamedByFirst (signers_of f)) found.0 c same found.1 in
         let known = (least_once has.1.0 (IsNamedByFirst (signers_of f)) 0 place found.0 has.0 c has.1.2 there).0 in
         (has.1.0, has.1.1, subst (λ (n : ℕ). IsSignerCertificate f has.1.0 n c) (sym (at ∙ known)) there)

@@ -23,7 +23,7 @@ use Rattle.names_core.specs.declared.name.DirectoryName.{DirectoryName}
 use Rattle.x509_types.specs.CertificateElements.{CertificateElements}
 use Rattle.authenticode_core.specs.BagSigner.{HasNoSigner}
 use Rattle.authenticode_core.specs.CertificateBag.{IsBag}
-use Rattle.authenticode_core.specs.Inside.SigningSteps.{TellsName}
+use Rattle.authenticode_core.specs.Inside.SigningSteps.{ReturnsName}
 use Rattle.authenticode_core.specs.SignedFields.{IsFirstSigner, signers_of}
 use Rattle.authenticode_core.specs.SigningRules.{HasNoCertificate, IsBagOf, IsNamedByKey, RefusesAuthenticodeBy}
 use Rattle.authenticode_core.specs.declared.error.AuthenticodeError.{AuthenticodeError}
@@ -59,40 +59,40 @@ heads x y s t e = cc
 -- the borrowed name is the one that is made of its octets
 same_name : (element lent : DerElement) (issuer serial_number : List ℕ) (made : DirectoryName) (value : IssuerAndSerialNumber) → element ≡ issuer_and_serial_number value → element ≡ sequence (lent ∷ Primitive 0x02 serial_number ∷ [])
     → issuer ≡ encoding lent → issuer ≡ encoding (name made.name) → lent ≡ name made.name
-same_name element lent issuer serial_number made value is holds octets told =
+same_name element lent issuer serial_number made value is holds octets returned =
     let head = heads lent (name value.issuer) (Primitive 0x02 serial_number) (integer value.serial_number) (sym holds ∙ is) in
-    head ∙ formed_encoding_once (name value.issuer) (name made.name) (names.formed value.issuer) (names.formed made.name) (ap encoding (sym head) ∙ sym octets ∙ told)
+    head ∙ formed_encoding_once (name value.issuer) (name made.name) (names.formed value.issuer) (names.formed made.name) (ap encoding (sym head) ∙ sym octets ∙ returned)
 
 -- ---- no certificate
 
-pub tells_name : (issuer serial_number : List ℕ) (made : DirectoryName) (number : IntegerAsn1) → IsWithin (λ (element : DerElement) (m : DirectoryName). element ≡ name m.name) issuer made → integer_contents number ≡ serial_number
-    → TellsName issuer serial_number (errors.NoCertificatesAssociatedWithIssuerAndSerialNumber made number)
-tells_name issuer serial_number made number within is =
-    record { made = made; number = number; issuer_is = within.encoded ∙ ap encoding within.spelled; number_is = is; told = refl }
+pub returns_name : (issuer serial_number : List ℕ) (made : DirectoryName) (number : IntegerAsn1) → IsWithin (λ (element : DerElement) (m : DirectoryName). element ≡ name m.name) issuer made → integer_contents number ≡ serial_number
+    → ReturnsName issuer serial_number (errors.NoCertificatesAssociatedWithIssuerAndSerialNumber made number)
+returns_name issuer serial_number made number within is =
+    record { made = made; number = number; issuer_is = within.encoded ∙ ap encoding within.spelled; number_is = is; returned = refl }
 
 has_no_certificate : (f : SignedDataElements) (g : SignerElements) (bag : List CertificateElements) (issuer serial_number : List ℕ) (e : AuthenticodeError) → IsFirstSigner f g → IsBagOf f bag → HasNoSigner (signers_of f) bag
-    → LendsNamed g.sid issuer serial_number → TellsName issuer serial_number e → HasNoCertificate f g e
-has_no_certificate f g bag issuer serial_number e first is none lent tells =
+    → LendsNamed g.sid issuer serial_number → ReturnsName issuer serial_number e → HasNoCertificate f g e
+has_no_certificate f g bag issuer serial_number e first is none lent returns =
     let kids = lent.name ∷ Primitive 0x02 serial_number ∷ [] in
     let value = by_name g.sid kids first.value.sid (sid_is f g first) lent.is in
-    let same = same_name g.sid lent.name issuer serial_number tells.made value.0 value.1 lent.is lent.octets tells.issuer_is in
+    let same = same_name g.sid lent.name issuer serial_number returns.made value.0 value.1 lent.is lent.octets returns.issuer_is in
     record {
-      issuer = tells.made;
-      serial_number = tells.number;
+      issuer = returns.made;
+      serial_number = returns.number;
       named = lent.is
           ∙ ap (λ (x : DerElement). sequence (x ∷ Primitive 0x02 serial_number ∷ [])) same
-          ∙ ap (λ (octets : List ℕ). sequence (name tells.made.name ∷ Primitive 0x02 octets ∷ [])) (sym tells.number_is);
+          ∙ ap (λ (octets : List ℕ). sequence (name returns.made.name ∷ Primitive 0x02 octets ∷ [])) (sym returns.number_is);
       bag = bag;
       is_bag = is;
       none = none;
-      told = tells.told;
+      returned = returns.returned;
     }
 
 pub no_certificate : (f : SignedDataElements) (g : SignerElements) (bag : List CertificateElements) (issuer serial_number : List ℕ) (e : AuthenticodeError) → IsFirstSigner f g → IsBagOf f bag → HasNoSigner (signers_of f) bag
-    → LendsNamed g.sid issuer serial_number → TellsName issuer serial_number e ⊎ (e ≡ errors.Memory) → RefusesAuthenticodeBy (IsNamedByKey g ∷ HasNoCertificate f g ∷ []) e
-no_certificate f g bag issuer serial_number e first is none lent (inl tells) =
+    → LendsNamed g.sid issuer serial_number → ReturnsName issuer serial_number e ⊎ (e ≡ errors.Memory) → RefusesAuthenticodeBy (IsNamedByKey g ∷ HasNoCertificate f g ∷ []) e
+no_certificate f g bag issuer serial_number e first is none lent (inl returns) =
     let met : IsMet (IsNamedByKey g) = λ x broken. key_or_name broken.0 (lent.name ∷ Primitive 0x02 serial_number ∷ []) (sym broken.1 ∙ lent.is) in
-    inl (inr (met, inl (has_no_certificate f g bag issuer serial_number e first is none lent tells)))
+    inl (inr (met, inl (has_no_certificate f g bag issuer serial_number e first is none lent returns)))
 no_certificate f g bag issuer serial_number e first is none lent (inr memory) = inr memory
 
 -- ---- the bag

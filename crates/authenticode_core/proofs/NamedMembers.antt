@@ -126,18 +126,18 @@ none_as bag by holds same none = λ place d later at fits. none place d later at
 found_there : (A : Type 0) (B : BagCertificate → Type 0) (r : Option BagCertificate) (x : BagCertificate) → r ≡ Some x → MatchOption r A B → B x
 found_there A B r x e m = subst (λ (o : Option BagCertificate). MatchOption o A B) e m
 
-told_of_same : (bag : List CertificateElements) (asks : Bool) (a b : CertificateElements) → a ≡ b → IsTrue asks ↔ AsksForPurposes bag a → IsTrue asks ↔ AsksForPurposes bag b
-told_of_same bag asks a b same told = subst (λ (c : CertificateElements). IsTrue asks ↔ AsksForPurposes bag c) same told
+determined_of_same : (bag : List CertificateElements) (asks : Bool) (a b : CertificateElements) → a ≡ b → IsTrue asks ↔ AsksForPurposes bag a → IsTrue asks ↔ AsksForPurposes bag b
+determined_of_same bag asks a b same decides = subst (λ (c : CertificateElements). IsTrue asks ↔ AsksForPurposes bag c) same decides
 
 named_so : (bag : List CertificateElements) (issuer serial_number : List ℕ) (found : BagCertificate) (asks : Bool) (c first : CertificateElements) → c ≡ view_elements found.certificate
     → IsLeastPlace bag (IsNamedBy issuer serial_number) 0 found.place c → IsFirstOfName bag issuer serial_number first → IsTrue asks ↔ AsksForPurposes bag first → IsTrue asks ↔ AsksForPurposes bag c
-named_so bag issuer serial_number found asks c first e there is told =
-    told_of_same bag asks first c (least_once bag (IsNamedBy issuer serial_number) 0 found.place is.0 c first there is.1).1 told
+named_so bag issuer serial_number found asks c first e there is decides =
+    determined_of_same bag asks first c (least_once bag (IsNamedBy issuer serial_number) 0 found.place is.0 c first there is.1).1 decides
 
 pub named_where : (bag : List CertificateElements) (issuer serial_number : List ℕ) (r : Option BagCertificate) (found : BagCertificate) (asks : Bool) (first : CertificateElements) → r ≡ Some found
     → MatchOption r (HasNoPlace bag (IsNamedBy issuer serial_number) 0) (λ k. IsLeastPlace bag (IsNamedBy issuer serial_number) 0 k.place (view_elements k.certificate))
     → IsFirstOfName bag issuer serial_number first → IsTrue asks ↔ AsksForPurposes bag first → IsNamedAt bag issuer serial_number (record { certificate = found; asks_for_purposes = asks })
-named_where bag issuer serial_number r found asks first e least is told =
+named_where bag issuer serial_number r found asks first e least is decides =
     let B : BagCertificate → Type 0 = λ k. IsLeastPlace bag (IsNamedBy issuer serial_number) 0 k.place (view_elements k.certificate) in
     let there : B found = found_there (HasNoPlace bag (IsNamedBy issuer serial_number) 0) B r found e least in
-    record { least = there; asks = named_so bag issuer serial_number found asks (view_elements found.certificate) first refl there is told }
+    record { least = there; asks = named_so bag issuer serial_number found asks (view_elements found.certificate) first refl there is decides }

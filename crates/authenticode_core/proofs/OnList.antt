@@ -8,7 +8,7 @@ use Rattle.cms_content.specs.declared.ctl_entry.CTLEntry.{CTLEntry}
 use Rattle.der_core.specs.DerElement.{DerElement}
 use Rattle.der_core.specs.Encoding.{encoding}
 use Rattle.der_core.specs.Rules.{IsFirstBroken, IsMet}
-use Rattle.der_core.proofs.RuleLists.{AreMet, AreToldOnce, IsToldOnce, none_broken, one_broken}
+use Rattle.der_core.proofs.RuleLists.{AreMet, AreReturnedOnce, IsReturnedOnce, none_broken, one_broken}
 use Rattle.trust_list.proofs.OneListing.{listed_unbroken, listing_once}
 use Rattle.trust_list.specs.Listing.{listing_rules}
 use Rattle.trust_list.specs.declared.error.ListingError.{ListingError}
@@ -47,28 +47,28 @@ module _ (list : CertificateTrustList) where
   content_met : (entries : List CTLEntry) → HasEntries list entries → AreMet (content_rules list)
   content_met entries has = (λ e broken. no_content (content_of list) (contents.CertificateTrustList has.0) has.1 broken.0, (other_content entries has, tt))
 
-  content_told : AreToldOnce (content_rules list)
-  content_told = (λ a b p q. p.1 ∙ sym q.1, (λ a b p q. p.3 ∙ sym q.3, tt))
+  content_returned : AreReturnedOnce (content_rules list)
+  content_returned = (λ a b p q. p.1 ∙ sym q.1, (λ a b p q. p.3 ∙ sym q.3, tt))
 
   -- the error for the content isn't out of memory
-  told_so : (e : CtlError) → IsFirstBroken (content_rules list) e → of_ctl e ≡ errors.CtlError e
-  told_so e (inl p) = ap of_ctl p.1 ∙ sym (ap errors.CtlError p.1)
-  told_so e (inr (met, inl p)) = ap of_ctl p.3 ∙ sym (ap errors.CtlError p.3)
-  told_so e (inr (met, inr none)) = absurd none.1
+  returned_so : (e : CtlError) → IsFirstBroken (content_rules list) e → of_ctl e ≡ errors.CtlError e
+  returned_so e (inl p) = ap of_ctl p.1 ∙ sym (ap errors.CtlError p.1)
+  returned_so e (inr (met, inl p)) = ap of_ctl p.3 ∙ sym (ap errors.CtlError p.3)
+  returned_so e (inr (met, inr none)) = absurd none.1
 
   -- ---- names
 
   module _ (now : ℤ) (name : DerElement) where
-    no_list_once : IsToldOnce (IsNoList list)
-    no_list_once = λ a b p q. p.2 ∙ ap errors.CtlError (one_broken (content_rules list) content_told p.0 q.0 p.1 q.1) ∙ sym q.2
+    no_list_once : IsReturnedOnce (IsNoList list)
+    no_list_once = λ a b p q. p.2 ∙ ap errors.CtlError (one_broken (content_rules list) content_returned p.0 q.0 p.1 q.1) ∙ sym q.2
 
-    unlisted_once : IsToldOnce (IsUnlisted list now name)
+    unlisted_once : IsReturnedOnce (IsUnlisted list now name)
     unlisted_once = λ a b p q.
         let there = subst (λ (entries : List CTLEntry). IsFirstBroken (listing_rules entries (encoding name) now) p.2) (entries_once p.0 q.0 p.1 q.1) p.3 in
         p.4 ∙ ap of_listing (listing_once q.0 (encoding name) now p.2 q.2 there q.3) ∙ sym q.4
 
-    pub name_told : AreToldOnce (name_rules list now name)
-    name_told = (no_list_once, (unlisted_once, tt))
+    pub name_returned : AreReturnedOnce (name_rules list now name)
+    name_returned = (no_list_once, (unlisted_once, tt))
 
     list_met : (entries : List CTLEntry) → HasEntries list entries → IsMet (IsNoList list)
     list_met entries has = λ e broken. none_broken (content_rules list) (content_met entries has) broken.0 broken.1
@@ -84,13 +84,13 @@ module _ (list : CertificateTrustList) where
     pub on_list_unbroken : (e : AuthenticodeError) → IsOnList list now name → IsFirstBroken (name_rules list now name) e → ⊥
     on_list_unbroken e on broken = none_broken (name_rules list now name) (on_list_met on) e broken
 
-    pub name_told_once : (a b : AuthenticodeError) → IsFirstBroken (name_rules list now name) a → IsFirstBroken (name_rules list now name) b → a ≡ b
-    name_told_once a b p q = one_broken (name_rules list now name) name_told a b p q
+    pub name_returned_once : (a b : AuthenticodeError) → IsFirstBroken (name_rules list now name) a → IsFirstBroken (name_rules list now name) b → a ≡ b
+    name_returned_once a b p q = one_broken (name_rules list now name) name_returned a b p q
 
     -- ---- refusals
 
     pub no_list : (e : CtlError) → IsFirstBroken (content_rules list) e → IsFirstBroken (name_rules list now name) (of_ctl e)
-    no_list e broken = inl (e, broken, told_so e broken)
+    no_list e broken = inl (e, broken, returned_so e broken)
 
     pub not_listed : (entries : List CTLEntry) (e : ListingError) → HasEntries list entries → IsFirstBroken (listing_rules entries (encoding name) now) e → IsFirstBroken (name_rules list now name) (of_listing e)
     not_listed entries e has broken = inr (list_met entries has, inl (entries, has, e, broken, refl))

@@ -14,14 +14,14 @@ use Rattle.der_core.specs.declared.error.DerError.{DerError}
 use Rattle.der_core.specs.declared.error.DerError.TheVariants as der
 use Rattle.der_core.specs.declared.fault.DerFault.{DerFault}
 use Rattle.der_core.specs.declared.fault.Malformed.{Malformed}
-use Rattle.der_core.proofs.RuleLists.{none_tells, one_broken}
+use Rattle.der_core.proofs.RuleLists.{none_returns, one_broken}
 use Rattle.key_core.specs.Verifying.{Judge}
 use Rattle.key_core.specs.declared.element.Element.TheVariants.{Pkcs7}
 use Rattle.wincert_core.specs.Refusal.{contents_in}
 use Rattle.wincert_core.specs.declared.error.WinCertificateError.{WinCertificateError}
 use Rattle.x509_core.specs.declared.error.CertError.TheVariants.{Asn1Deserialization}
 use Rattle.authenticode_core.specs.Basic.{HasSignedData, IsNoSignedData, IsShapeless, IsMalformedPadded, IsUnreadSignature, RefusesValue}
-use Rattle.authenticode_core.specs.ContentRefusal.{told_of_content}
+use Rattle.authenticode_core.specs.ContentRefusal.{returned_of_content}
 use Rattle.authenticode_core.specs.SigningRules.{RefusesAuthenticodeBy}
 use Rattle.authenticode_core.specs.Trusted.{IsAnswer, IsTrusted, RefusesForm, asked, policy_rules, shape_rules}
 use Rattle.authenticode_core.specs.declared.accepted.Accepted.{Accepted}
@@ -30,10 +30,10 @@ use Rattle.authenticode_core.specs.declared.error.AuthenticodeError.TheVariants 
 use Rattle.authenticode_core.specs.declared.error.CheckError.{CheckError}
 use Rattle.authenticode_core.specs.declared.error.CheckError.TheVariants.{Win, Authenticode, Memory}
 use Rattle.authenticode_core.specs.declared.policy.Policy.{Policy}
-use Rattle.authenticode_core.proofs.BasicOrder.{shape_tells_no_memory, shape_told}
+use Rattle.authenticode_core.proofs.BasicOrder.{shape_returns_no_memory, shape_returned}
 use Rattle.authenticode_core.proofs.OneData.{one_data, one_element, same_certificate}
 use Rattle.authenticode_core.proofs.Padded.{IsFirst-padded}
-use Rattle.authenticode_core.proofs.PolicyOrder.{asked_told, one_trusted, policy_told, shape_in_policy, trusted_unbroken}
+use Rattle.authenticode_core.proofs.PolicyOrder.{asked_returned, one_trusted, policy_returned, shape_in_policy, trusted_unbroken}
 
 -- Octets have at most one first fault, and none if they begin with an element.
 abbrev pub FaultsAreOne : Type 0
@@ -64,35 +64,35 @@ named_once octets certificate e named refused = absurd cc
 
 -- ---- refusals are results
 
-told_or_memory : (e : AuthenticodeError) → (told_of_content e ≡ Authenticode e) ⊎ (e ≡ errors.Memory)
-told_or_memory (errors.CertError e) = inl refl
-told_or_memory (errors.IncorrectVersion expected got) = inl refl
-told_or_memory (errors.MultipleSignerInfo count) = inl refl
-told_or_memory (errors.IncorrectDigestAlgorithmsCount count) = inl refl
-told_or_memory errors.NoEncapsulatedContentInfo = inl refl
-told_or_memory errors.NoSpcIndirectDataContent = inl refl
-told_or_memory errors.DigestAlgorithmMismatch = inl refl
-told_or_memory (errors.FileHashMismatch actual expected) = inl refl
-told_or_memory errors.IncorrectSignerIdentifier = inl refl
-told_or_memory (errors.NoCertificatesAssociatedWithIssuerAndSerialNumber issuer serial_number) = inl refl
-told_or_memory (errors.UnsupportedAlgorithmError e) = inl refl
-told_or_memory (errors.SignatureError e) = inl refl
-told_or_memory errors.NoMessageDigest = inl refl
-told_or_memory (errors.UnsupportedHashAlgorithmError e) = inl refl
-told_or_memory (errors.HashMismatch actual expected) = inl refl
-told_or_memory errors.NoEKUCodeSigning = inl refl
-told_or_memory errors.MissingExpectedFileHash = inl refl
-told_or_memory (errors.InvalidTimestampCert e) = inl refl
-told_or_memory (errors.CtlError e) = inl refl
-told_or_memory errors.CAIsNotTrusted = inl refl
-told_or_memory errors.CaCertificateRevoked = inl refl
-told_or_memory (errors.CaCertificateExpired not_after now) = inl refl
-told_or_memory (errors.CaCertificateNotYetValid not_before now) = inl refl
-told_or_memory errors.ProgramNameCharSet = inl refl
-told_or_memory errors.NoCertificates = inl refl
-told_or_memory (errors.Asn1DerError e) = inl refl
-told_or_memory (errors.TimestampError e) = inl refl
-told_or_memory errors.Memory = inr refl
+returned_or_memory : (e : AuthenticodeError) → (returned_of_content e ≡ Authenticode e) ⊎ (e ≡ errors.Memory)
+returned_or_memory (errors.CertError e) = inl refl
+returned_or_memory (errors.IncorrectVersion expected got) = inl refl
+returned_or_memory (errors.MultipleSignerInfo count) = inl refl
+returned_or_memory (errors.IncorrectDigestAlgorithmsCount count) = inl refl
+returned_or_memory errors.NoEncapsulatedContentInfo = inl refl
+returned_or_memory errors.NoSpcIndirectDataContent = inl refl
+returned_or_memory errors.DigestAlgorithmMismatch = inl refl
+returned_or_memory (errors.FileHashMismatch actual expected) = inl refl
+returned_or_memory errors.IncorrectSignerIdentifier = inl refl
+returned_or_memory (errors.NoCertificatesAssociatedWithIssuerAndSerialNumber issuer serial_number) = inl refl
+returned_or_memory (errors.UnsupportedAlgorithmError e) = inl refl
+returned_or_memory (errors.SignatureError e) = inl refl
+returned_or_memory errors.NoMessageDigest = inl refl
+returned_or_memory (errors.UnsupportedHashAlgorithmError e) = inl refl
+returned_or_memory (errors.HashMismatch actual expected) = inl refl
+returned_or_memory errors.NoEKUCodeSigning = inl refl
+returned_or_memory errors.MissingExpectedFileHash = inl refl
+returned_or_memory (errors.InvalidTimestampCert e) = inl refl
+returned_or_memory (errors.CtlError e) = inl refl
+returned_or_memory errors.CAIsNotTrusted = inl refl
+returned_or_memory errors.CaCertificateRevoked = inl refl
+returned_or_memory (errors.CaCertificateExpired not_after now) = inl refl
+returned_or_memory (errors.CaCertificateNotYetValid not_before now) = inl refl
+returned_or_memory errors.ProgramNameCharSet = inl refl
+returned_or_memory errors.NoCertificates = inl refl
+returned_or_memory (errors.Asn1DerError e) = inl refl
+returned_or_memory (errors.TimestampError e) = inl refl
+returned_or_memory errors.Memory = inr refl
 
 -- for what the certificate is
 pub value_refuses : (policy : Policy) (octets : List ℕ) (e : CheckError) → RefusesValue octets e → RefusesForm policy octets e
@@ -107,22 +107,22 @@ shape_is_answer judge policy octets (Authenticode e) (inl p) = inl p
 shape_is_answer judge policy octets (Authenticode e) (inr p) = inr (p.0, p.1, shape_in_policy judge policy p.0 e p.2)
 shape_is_answer judge policy octets Memory p = absurd p
 
-rules_told : (judge : Judge) (policy : Policy) (octets : List ℕ) (f : SignedDataElements) (e : AuthenticodeError) → HasSignedData octets f → RefusesAuthenticodeBy (policy_rules judge policy f) e → (told_of_content e ≡ Authenticode e) ⊎ (e ≡ errors.Memory)
-    → IsAnswer judge policy octets (Err (told_of_content e))
-rules_told judge policy octets f e has (inl broken) (inl told) = rw told (inr (f, has, broken))
-rules_told judge policy octets f e has p (inr memory) = rw memory tt
-rules_told judge policy octets f e has (inr memory) told = rw memory tt
+rules_returned : (judge : Judge) (policy : Policy) (octets : List ℕ) (f : SignedDataElements) (e : AuthenticodeError) → HasSignedData octets f → RefusesAuthenticodeBy (policy_rules judge policy f) e → (returned_of_content e ≡ Authenticode e) ⊎ (e ≡ errors.Memory)
+    → IsAnswer judge policy octets (Err (returned_of_content e))
+rules_returned judge policy octets f e has (inl broken) (inl returned) = rw returned (inr (f, has, broken))
+rules_returned judge policy octets f e has p (inr memory) = rw memory tt
+rules_returned judge policy octets f e has (inr memory) returned = rw memory tt
 
 -- by the rules, and out of memory
-pub refusal_is_answer : (judge : Judge) (policy : Policy) (octets : List ℕ) (f : SignedDataElements) (e : AuthenticodeError) → HasSignedData octets f → RefusesAuthenticodeBy (policy_rules judge policy f) e → IsAnswer judge policy octets (Err (told_of_content e))
-refusal_is_answer judge policy octets f e has p = rules_told judge policy octets f e has p (told_or_memory e)
+pub refusal_is_answer : (judge : Judge) (policy : Policy) (octets : List ℕ) (f : SignedDataElements) (e : AuthenticodeError) → HasSignedData octets f → RefusesAuthenticodeBy (policy_rules judge policy f) e → IsAnswer judge policy octets (Err (returned_of_content e))
+refusal_is_answer judge policy octets f e has p = rules_returned judge policy octets f e has p (returned_or_memory e)
 
 -- a refusal of the form is never out of memory
-shape_told_so : (policy : Policy) (f : SignedDataElements) (e : AuthenticodeError) (b : Bool) → IsFirstBroken (asked b (shape_rules f policy.file_hash)) e → (told_of_content e ≡ Authenticode e) ⊎ (e ≡ errors.Memory) → told_of_content e ≡ Authenticode e
-shape_told_so policy f e b broken (inl told) = told
-shape_told_so policy f e true broken (inr memory) =
-    absurd (none_tells (shape_rules f policy.file_hash) errors.Memory (shape_tells_no_memory f policy.file_hash) (subst (λ (x : AuthenticodeError). IsFirstBroken (shape_rules f policy.file_hash) x) memory broken))
-shape_told_so policy f e false broken (inr memory) = absurd broken
+shape_returned_so : (policy : Policy) (f : SignedDataElements) (e : AuthenticodeError) (b : Bool) → IsFirstBroken (asked b (shape_rules f policy.file_hash)) e → (returned_of_content e ≡ Authenticode e) ⊎ (e ≡ errors.Memory) → returned_of_content e ≡ Authenticode e
+shape_returned_so policy f e b broken (inl returned) = returned
+shape_returned_so policy f e true broken (inr memory) =
+    absurd (none_returns (shape_rules f policy.file_hash) errors.Memory (shape_returns_no_memory f policy.file_hash) (subst (λ (x : AuthenticodeError). IsFirstBroken (shape_rules f policy.file_hash) x) memory broken))
+shape_returned_so policy f e false broken (inr memory) = absurd broken
 
 module _ (at_most_one : FaultsAreOne) (exclude : FaultsExclude) where
   not_both : (octets : List ℕ) (element : DerElement) (m : Malformed) → IsPaddedEncoding octets element → IsMalformedPadded octets m → ⊥
@@ -166,7 +166,7 @@ module _ (at_most_one : FaultsAreOne) (exclude : FaultsExclude) where
   one_unread_signature : (octets : List ℕ) (a b : AuthenticodeError) → IsUnreadSignature octets a → IsUnreadSignature octets b → a ≡ b
   one_unread_signature octets a b p q =
       let same = same_certificate octets p.certificate q.certificate p.named q.named in
-      p.told ∙ ap (λ (source : DerError). errors.CertError (Asn1Deserialization Pkcs7 source)) (one_source q.certificate p.source q.source (subst (λ (c : List ℕ). IsNoSignedData c p.source) same p.cause) q.cause) ∙ sym q.told
+      p.returned ∙ ap (λ (source : DerError). errors.CertError (Asn1Deserialization Pkcs7 source)) (one_source q.certificate p.source q.source (subst (λ (c : List ℕ). IsNoSignedData c p.source) same p.cause) q.cause) ∙ sym q.returned
 
   signed_data_is_read : (octets : List ℕ) (e : AuthenticodeError) (f : SignedDataElements) → IsUnreadSignature octets e → HasSignedData octets f → ⊥
   signed_data_is_read octets e f p q =
@@ -181,7 +181,7 @@ module _ (at_most_one : FaultsAreOne) (exclude : FaultsExclude) where
   one_shape_cause policy octets a b (inl p) (inr q) = absurd (signed_data_is_read octets a q.0 p q.1)
   one_shape_cause policy octets a b (inr p) (inl q) = absurd (signed_data_is_read octets b p.0 q p.1)
   one_shape_cause policy octets a b (inr p) (inr q) =
-      one_broken (asked policy.basic (shape_rules q.0 policy.file_hash)) (asked_told policy.basic (shape_rules q.0 policy.file_hash) (shape_told q.0 policy.file_hash)) a b
+      one_broken (asked policy.basic (shape_rules q.0 policy.file_hash)) (asked_returned policy.basic (shape_rules q.0 policy.file_hash) (shape_returned q.0 policy.file_hash)) a b
       (subst (λ (f : SignedDataElements). IsFirstBroken (asked policy.basic (shape_rules f policy.file_hash)) a) (one_data octets p.0 q.0 p.1 q.1) p.2) q.2
 
   unnamed_shape : (policy : Policy) (octets : List ℕ) (header : WinCertificateError) (e : AuthenticodeError) → contents_in octets ≡ Err header → RefusesForm policy octets (Authenticode e) → ⊥
@@ -200,12 +200,12 @@ module _ (at_most_one : FaultsAreOne) (exclude : FaultsExclude) where
 
   -- if there is signed data they are refused for its form
   pub refused_there : (policy : Policy) (octets : List ℕ) (f : SignedDataElements) (e : CheckError) → HasSignedData octets f → RefusesForm policy octets e
-      → (x : AuthenticodeError) × (told_of_content x ≡ e) × IsFirstBroken (asked policy.basic (shape_rules f policy.file_hash)) x
+      → (x : AuthenticodeError) × (returned_of_content x ≡ e) × IsFirstBroken (asked policy.basic (shape_rules f policy.file_hash)) x
   refused_there policy octets f (Win e) has p = absurd (named_once octets has.certificate e has.named p)
   refused_there policy octets f (Authenticode e) has (inl p) = absurd (signed_data_is_read octets e f p has)
   refused_there policy octets f (Authenticode e) has (inr p) =
       let broken = subst (λ (x : SignedDataElements). IsFirstBroken (asked policy.basic (shape_rules x policy.file_hash)) e) (one_data octets p.0 f p.1 has) p.2 in
-      (e, shape_told_so policy f e policy.basic broken (told_or_memory e), broken)
+      (e, shape_returned_so policy f e policy.basic broken (returned_or_memory e), broken)
   refused_there policy octets f Memory has p = absurd p
 
   -- ---- results
@@ -219,7 +219,7 @@ module _ (at_most_one : FaultsAreOne) (exclude : FaultsExclude) where
   one_cause judge policy octets a b (inl p) (inr q) = absurd (signed_data_is_read octets a q.0 p q.1)
   one_cause judge policy octets a b (inr p) (inl q) = absurd (signed_data_is_read octets b p.0 q p.1)
   one_cause judge policy octets a b (inr p) (inr q) =
-      one_broken (policy_rules judge policy q.0) (policy_told judge policy q.0) a b (subst (λ (f : SignedDataElements). IsFirstBroken (policy_rules judge policy f) a) (one_data octets p.0 q.0 p.1 q.1) p.2) q.2
+      one_broken (policy_rules judge policy q.0) (policy_returned judge policy q.0) a b (subst (λ (f : SignedDataElements). IsFirstBroken (policy_rules judge policy f) a) (one_data octets p.0 q.0 p.1 q.1) p.2) q.2
 
   no_cause : (judge : Judge) (policy : Policy) (octets : List ℕ) (f : SignedDataElements) (accepted : Accepted) (e : AuthenticodeError) → HasSignedData octets f → IsTrusted judge policy f accepted → Causes judge policy octets e → ⊥
   no_cause judge policy octets f accepted e has t (inl p) = signed_data_is_read octets e f p has
@@ -262,7 +262,7 @@ module _ (at_most_one : FaultsAreOne) (exclude : FaultsExclude) where
 
     -- why the signed data is refused, its form first
     pub refused_behind : (r : Result Accepted CheckError) (f : SignedDataElements) (given : Result Accepted AuthenticodeError) → HasSignedData octets f
-        → ((x : AuthenticodeError) → IsFirstBroken (asked policy.basic (shape_rules f policy.file_hash)) x → given ≡ Err x) → ((x : AuthenticodeError) → given ≡ Err x → r ≡ Err (told_of_content x))
+        → ((x : AuthenticodeError) → IsFirstBroken (asked policy.basic (shape_rules f policy.file_hash)) x → given ≡ Err x) → ((x : AuthenticodeError) → given ≡ Err x → r ≡ Err (returned_of_content x))
         → (e : CheckError) → RefusesForm policy octets e → r ≡ Err e
     refused_behind r f given has shape so e k =
         let there = refused_there policy octets f e has k in

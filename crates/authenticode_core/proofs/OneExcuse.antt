@@ -6,7 +6,7 @@ use Rattle.std.specs.Option.{option_copied}
 use Rattle.der_core.specs.DerElement.{DerElement}
 use Rattle.der_core.specs.Optional.{members_of}
 use Rattle.der_core.specs.Rules.{IsFirstBroken, IsMet}
-use Rattle.der_core.proofs.RuleLists.{AreMet, AreToldOnce, IsToldOnce, none_broken, one_broken}
+use Rattle.der_core.proofs.RuleLists.{AreMet, AreReturnedOnce, IsReturnedOnce, none_broken, one_broken}
 use Rattle.key_core.specs.Verifying.{Judge}
 use Rattle.x509_core.specs.KeptCertificate.{KeptCertificate}
 use Rattle.x509_core.specs.declared.error.CertError.{CertError}
@@ -24,7 +24,7 @@ use Rattle.authenticode_core.specs.declared.error.AuthenticodeError.TheVariants 
 use Rattle.authenticode_core.specs.declared.policy.Policy.{Policy}
 use Rattle.authenticode_core.proofs.BagSteps.{one_bag}
 use Rattle.authenticode_core.proofs.GivenLists.{given_once}
-use Rattle.authenticode_core.proofs.OnList.{name_told_once, on_list_unbroken}
+use Rattle.authenticode_core.proofs.OnList.{name_returned_once, on_list_unbroken}
 use Rattle.authenticode_core.proofs.OneCa.{name_once}
 use Rattle.authenticode_core.proofs.OnePath.{kept_at_once, linked_is_not_broken, unlinked_once}
 use Rattle.authenticode_core.proofs.Tokens.{token_once}
@@ -48,9 +48,9 @@ module _ (judge : Judge) (policy : Policy) (f : SignedDataElements) (bag : List 
   reason_or_not excuses.Token p (inl lifetime) = p.0 lifetime
   reason_or_not excuses.Token p (inr none) = none.1 p.2.t p.2.bag p.2.has p.2.stamping
 
-  pub bad_stamp_is_told : (e : AuthenticodeError) → HasBadStamp judge policy f bag c e → HasNoExcuse f bag c → ⊥
-  bad_stamp_is_told e bad (inl lifetime) = bad.mortal lifetime
-  bad_stamp_is_told e bad (inr none) = none.1 bad.t bad.stamping_bag bad.has bad.stamping
+  pub bad_stamp_is_returned : (e : AuthenticodeError) → HasBadStamp judge policy f bag c e → HasNoExcuse f bag c → ⊥
+  bad_stamp_is_returned e bad (inl lifetime) = bad.mortal lifetime
+  bad_stamp_is_returned e bad (inr none) = none.1 bad.t bad.stamping_bag bad.has bad.stamping
 
 -- ---- the bag of the token, which is unique
 
@@ -81,12 +81,12 @@ linked_token_is_not_broken judge bag e p q =
     linked_is_not_broken judge any_time bag p.first p.places e p.linked (moved judge bag q.first p.first q.places p.places e first places q.unlinked)
 
 -- the CA of a token's bag is on the list, or has one refusal
-unlisted_stamp_once : (policy : Policy) (bag : List CertificateElements) → IsToldOnce (IsUnlistedStamp policy bag)
+unlisted_stamp_once : (policy : Policy) (bag : List CertificateElements) → IsReturnedOnce (IsUnlistedStamp policy bag)
 unlisted_stamp_once policy bag = λ a b p q.
     let list = given_once (option_copied policy.list) p.0 q.0 p.1 q.1 in
     let ca = name_once bag (places_from 0 (length bag)) p.2 q.2 p.3 q.3 in
     let there = subst (λ (name : DerElement). IsFirstBroken (name_rules q.0 policy.now name) a) ca (subst (λ (l : CertificateTrustList). IsFirstBroken (name_rules l policy.now p.2) a) list p.4) in
-    name_told_once q.0 policy.now q.2 a b there q.4
+    name_returned_once q.0 policy.now q.2 a b there q.4
 
 listed_stamp_met : (policy : Policy) (bag : List CertificateElements) → IsListedToken policy bag → IsMet (IsUnlistedStamp policy bag)
 listed_stamp_met policy bag listed = λ e broken.
@@ -96,12 +96,12 @@ listed_stamp_met policy bag listed = λ e broken.
 
 -- ---- the rules of a token's bag
 
-unlinked_stamp_once : (judge : Judge) (bag : List CertificateElements) → IsToldOnce (IsUnlinkedStamp judge bag)
+unlinked_stamp_once : (judge : Judge) (bag : List CertificateElements) → IsReturnedOnce (IsUnlinkedStamp judge bag)
 unlinked_stamp_once judge bag = λ a b p q.
     p.2 ∙ ap errors.InvalidTimestampCert (unlinked_token_once judge bag p.0 q.0 p.1 q.1) ∙ sym q.2
 
-stamp_told : (judge : Judge) (policy : Policy) (bag : List CertificateElements) → AreToldOnce (stamp_rules judge policy bag)
-stamp_told judge policy bag = (unlinked_stamp_once judge bag, (unlisted_stamp_once policy bag, tt))
+stamp_returned : (judge : Judge) (policy : Policy) (bag : List CertificateElements) → AreReturnedOnce (stamp_rules judge policy bag)
+stamp_returned judge policy bag = (unlinked_stamp_once judge bag, (unlisted_stamp_once policy bag, tt))
 
 pub linked_stamp_met : (judge : Judge) (bag : List CertificateElements) → IsLinkedToken judge bag → IsMet (IsUnlinkedStamp judge bag)
 linked_stamp_met judge bag linked = λ e broken. linked_token_is_not_broken judge bag broken.0 linked broken.1
@@ -113,7 +113,7 @@ module _ (judge : Judge) (policy : Policy) (f : SignedDataElements) (bag : List 
   pub stamp_once : (a b : AuthenticodeError) → HasBadStamp judge policy f bag c a → HasBadStamp judge policy f bag c b → a ≡ b
   stamp_once a b p q =
       let bags = same_stamping_bag f p.t q.t p.stamping_bag q.stamping_bag p.has q.has p.stamping q.stamping in
-      one_broken (stamp_rules judge policy q.stamping_bag) (stamp_told judge policy q.stamping_bag) a b (subst (λ (other : List CertificateElements). IsFirstBroken (stamp_rules judge policy other) a) bags p.broken) q.broken
+      one_broken (stamp_rules judge policy q.stamping_bag) (stamp_returned judge policy q.stamping_bag) a b (subst (λ (other : List CertificateElements). IsFirstBroken (stamp_rules judge policy other) a) bags p.broken) q.broken
 
   pub bad_stamp_is_no_reason : (e : AuthenticodeError) (x : Excuse) → HasBadStamp judge policy f bag c e → HasReason judge policy f bag c x → ⊥
   bad_stamp_is_no_reason e excuses.None bad p = p

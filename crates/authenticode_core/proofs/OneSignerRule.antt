@@ -4,9 +4,9 @@ use Rattle.std.proofs.Common.{◌≡◌, ℕ, List, [], ◌∷◌, Bool, Some, t
 use Rattle.cms_types.specs.SignedDataElements.{SignedDataElements}
 use Rattle.cms_types.specs.SignerElements.{SignerElements}
 use Rattle.der_core.specs.Rules.{IsMet, IsFirstBroken}
-use Rattle.der_core.proofs.RuleLists.{AreMet, AreToldOnce, IsToldOnce, met_together}
+use Rattle.der_core.proofs.RuleLists.{AreMet, AreReturnedOnce, IsReturnedOnce, met_together}
 use Rattle.key_core.specs.Verifying.{Judge}
-use Rattle.x509_core.proofs.OneLink.{told_once, window_once}
+use Rattle.x509_core.proofs.OneLink.{returned_once, window_once}
 use Rattle.x509_core.specs.KeptCertificate.{KeptCertificate}
 use Rattle.x509_core.specs.Link.{IsOutside}
 use Rattle.x509_core.specs.Window.{window_rules}
@@ -29,50 +29,50 @@ use Rattle.authenticode_core.proofs.OneSigning.{certificate_once, signer_once}
 use Rattle.authenticode_core.proofs.SignerOrder.{dated_met, moved, named_met, named_rules, stamped_at, vouched_is_valid, unbegun_at, unexcused_at, unvouched_at, valid_or_expired, validity_met}
 use Rattle.authenticode_core.proofs.WalkSteps.{one_path}
 
-outside_once : (w : Window) (signer : KeptCertificate) → IsToldOnce (IsOutside w signer)
-outside_once w signer = told_once signer (IsFirstBroken (window_rules w signer.elements)) (window_once w signer.elements)
+outside_once : (w : Window) (signer : KeptCertificate) → IsReturnedOnce (IsOutside w signer)
+outside_once w signer = returned_once signer (IsFirstBroken (window_rules w signer.elements)) (window_once w signer.elements)
 
 asked_or_not : (b : Bool) → b ≡ false → IsTrue b → ⊥
 asked_or_not b off on = absurd cc
 
 -- ---- each is reported by one error
 
-pub key_name_once : (f : SignedDataElements) → IsToldOnce (HasKeyName f)
+pub key_name_once : (f : SignedDataElements) → IsReturnedOnce (HasKeyName f)
 key_name_once f = λ a b p q. p.2.2 ∙ sym q.2.2
 
-pub unknown_name_once : (f : SignedDataElements) → IsToldOnce (HasUnknownName f)
+pub unknown_name_once : (f : SignedDataElements) → IsReturnedOnce (HasUnknownName f)
 unknown_name_once f = λ a b p q.
     certificate_once f q.0 a b (subst (λ (g : SignerElements). HasNoCertificate f g a) (first_once f p.0 q.0 p.1 q.1) p.2) q.2
 
-undated_once : (policy : Policy) → IsToldOnce (IsUndated policy)
+undated_once : (policy : Policy) → IsReturnedOnce (IsUndated policy)
 undated_once policy = λ a b p q. p.2 ∙ ap errors.CertError (p.1.2 ∙ sym q.1.2) ∙ sym q.2
 
 module _ (judge : Judge) (policy : Policy) (f : SignedDataElements) where
-  unbegun_once : IsToldOnce (IsUnbegun policy f)
+  unbegun_once : IsReturnedOnce (IsUnbegun policy f)
   unbegun_once = λ a b p q.
       let there = unbegun_at judge policy f p.bag p.place p.signer p.is b q in
-      p.told ∙ ap errors.CertError (outside_once (window_of policy) p.signer p.cause there.1 p.outside there.2) ∙ sym there.3
+      p.returned ∙ ap errors.CertError (outside_once (window_of policy) p.signer p.cause there.1 p.outside there.2) ∙ sym there.3
 
-  unexcused_once : IsToldOnce (IsUnexcused policy f)
+  unexcused_once : IsReturnedOnce (IsUnexcused policy f)
   unexcused_once = λ a b p q.
       let there = unexcused_at judge policy f p.bag p.place p.signer p.is b q in
-      p.told ∙ ap errors.CertError (outside_once (window_of policy) p.signer p.cause there.2 p.outside there.3) ∙ sym there.4
+      p.returned ∙ ap errors.CertError (outside_once (window_of policy) p.signer p.cause there.2 p.outside there.3) ∙ sym there.4
 
-  stamped_once : IsToldOnce (IsBadlyStamped judge policy f)
+  stamped_once : IsReturnedOnce (IsBadlyStamped judge policy f)
   stamped_once = λ a b p q.
       stamp_once judge policy f p.bag p.signer.elements a b p.stamp (stamped_at judge policy f p.bag p.place p.signer p.is b q).1
 
-  unvouched_once : IsToldOnce (IsUnvouched judge policy f)
+  unvouched_once : IsReturnedOnce (IsUnvouched judge policy f)
   unvouched_once = λ a b p q.
       let there = unvouched_at judge policy f p.bag p.place p.signer p.is b q in
       let same = one_path p.bag p.signer.elements p.path there.1 p.is_path there.3 in
       let unlinked = subst (λ (path : List ℕ). IsUnlinkedAt judge (window_of policy) p.bag p.signer path p.cause) same p.unlinked in
-      p.told ∙ ap errors.CertError (unlinked_once judge (window_of policy) p.bag p.signer there.1 p.cause there.2 unlinked there.4) ∙ sym there.5
+      p.returned ∙ ap errors.CertError (unlinked_once judge (window_of policy) p.bag p.signer there.1 p.cause there.2 unlinked there.4) ∙ sym there.5
 
-  pub signer_told : AreToldOnce (signer_rules judge policy f)
-  signer_told =
-      let standing : AreToldOnce (valid_and_vouched_rules judge policy f) = (unbegun_once, (unexcused_once, (stamped_once, (unvouched_once, tt)))) in
-      (λ a b p q. p.1 ∙ sym q.1, (key_name_once f, (unknown_name_once f, (undated_once policy, standing))))
+  pub signer_returned : AreReturnedOnce (signer_rules judge policy f)
+  signer_returned =
+      let determined : AreReturnedOnce (valid_and_vouched_rules judge policy f) = (unbegun_once, (unexcused_once, (stamped_once, (unvouched_once, tt)))) in
+      (λ a b p q. p.1 ∙ sym q.1, (key_name_once f, (unknown_name_once f, (undated_once policy, determined))))
 
   -- ---- a certificate that is vouched for breaks none
 

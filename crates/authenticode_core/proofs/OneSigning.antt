@@ -12,7 +12,7 @@ use Rattle.der_core.specs.Optional.{members_of}
 use Rattle.der_core.specs.DerElement.{DerElement, Primitive}
 use Rattle.der_core.specs.Elements.{sequence}
 use Rattle.der_core.specs.Rules.{IsMet, IsFirstBroken}
-use Rattle.der_core.proofs.RuleLists.{AreMet, AreToldOnce, IsToldOnce, NoneTells, none_broken, one_broken}
+use Rattle.der_core.proofs.RuleLists.{AreMet, AreReturnedOnce, IsReturnedOnce, NoneReturns, none_broken, one_broken}
 use Rattle.key_core.proofs.Verifications.{verify_one, accepted_is_met}
 use Rattle.key_core.specs.Verifying.{Judge, verify_rules}
 use Rattle.key_core.specs.declared.signature_algorithm.SignatureAlgorithm.TheVariants.{RsaPkcs1v15}
@@ -76,13 +76,13 @@ module _ (f : SignedDataElements) (g : SignerElements) where
 
   -- reported by one error
 
-  pub certificate_once : IsToldOnce (HasNoCertificate f g)
+  pub certificate_once : IsReturnedOnce (HasNoCertificate f g)
   certificate_once a b p q =
       let parts = two (name p.issuer.name) (name q.issuer.name) (integer p.serial_number) (integer q.serial_number) (sym p.named ∙ q.named) in
-      p.told
+      p.returned
       ∙ ap (λ (n : DirectoryName). errors.NoCertificatesAssociatedWithIssuerAndSerialNumber n p.serial_number) (directory_names.once (name p.issuer.name) p.issuer q.issuer refl parts.0)
       ∙ ap (errors.NoCertificatesAssociatedWithIssuerAndSerialNumber q.issuer) (integers.once (integer p.serial_number) p.serial_number q.serial_number refl parts.1)
-      ∙ sym q.told
+      ∙ sym q.returned
     where
       two : (x y s t : DerElement) → sequence (x ∷ s ∷ []) ≡ sequence (y ∷ t ∷ []) → (x ≡ y) × (s ≡ t)
       two x y s t e = (cc, cc)
@@ -160,21 +160,21 @@ module _ (judge : Judge) (f : SignedDataElements) (d : IndirectData) (g : Signer
   algorithm_once : (u v : UnsupportedAlgorithmError) → u ≡ v
   algorithm_once u v = refl
 
-  unknown_once : IsToldOnce (HasUnknownDigest g)
+  unknown_once : IsReturnedOnce (HasUnknownDigest g)
   unknown_once a b p q = p.2 ∙ ap errors.UnsupportedAlgorithmError (algorithm_once p.1 q.1) ∙ sym q.2
 
-  refused_once : (hash : HashAlgorithm) (c : CertificateElements) → IsToldOnce (IsRefusedUnder judge g hash c)
+  refused_once : (hash : HashAlgorithm) (c : CertificateElements) → IsReturnedOnce (IsRefusedUnder judge g hash c)
   refused_once hash c a b p q =
       let info = one_key c q.info p.info q.key p.key in
       let signature = signature_octets q.signature p.signature (sym q.octets ∙ p.octets) in
       let other : IsFirstBroken (verify_rules judge (RsaPkcs1v15 hash) p.info (signed_message g) p.signature) q.source =
       subst (λ (t : List ℕ). IsFirstBroken (verify_rules judge (RsaPkcs1v15 hash) p.info (signed_message g) t) q.source) signature
       (subst (λ (i : SubjectPublicKeyInfo). IsFirstBroken (verify_rules judge (RsaPkcs1v15 hash) i (signed_message g) q.signature) q.source) info q.refused) in
-      p.told
+      p.returned
       ∙ ap errors.SignatureError (one_broken (verify_rules judge (RsaPkcs1v15 hash) p.info (signed_message g) p.signature) (verify_one judge (RsaPkcs1v15 hash) p.info (signed_message g) p.signature) p.source q.source p.refused other)
-      ∙ sym q.told
+      ∙ sym q.returned
 
-  badly_once : IsToldOnce (IsBadlySigned judge f g)
+  badly_once : IsReturnedOnce (IsBadlySigned judge f g)
   badly_once a b p q =
       refused_once p.hash p.certificate a b p.refused
       (same_refusal p.hash q.hash p.certificate q.certificate b
@@ -182,21 +182,21 @@ module _ (judge : Judge) (f : SignedDataElements) (d : IndirectData) (g : Signer
       (signer_once f p.bag q.bag p.place q.place p.certificate q.certificate p.is_bag q.is_bag p.is_signer q.is_signer).1
       q.refused)
 
-  differs_once : IsToldOnce (DigestDiffers d g)
+  differs_once : IsReturnedOnce (DigestDiffers d g)
   differs_once a b p q =
-      p.told
+      p.returned
       ∙ ap (λ (actual : List ℕ). errors.HashMismatch actual (digest_of p.hash (digested_octets d))) (message_digest_once g p.actual q.actual p.has q.has)
       ∙ ap (λ (h : HashAlgorithm). errors.HashMismatch q.actual (digest_of h (digested_octets d))) (named_once g.digest_algorithm p.hash q.hash p.named q.named)
-      ∙ sym q.told
+      ∙ sym q.returned
 
-  pub signing_rules_are_told_once : AreToldOnce (signing_rules judge f d g)
-  signing_rules_are_told_once = (
+  pub signing_rules_are_returned_once : AreReturnedOnce (signing_rules judge f d g)
+  signing_rules_are_returned_once = (
     λ a b p q. p.2 ∙ sym q.2,
-    (certificate_once f g, (unknown_once, (badly_once, (λ a b p q. p.1 ∙ sym q.1, (λ a b p q. p.1 ∙ sym q.1, (differs_once, (λ a b p q. p.told ∙ sym q.told, tt))))))),
+    (certificate_once f g, (unknown_once, (badly_once, (λ a b p q. p.1 ∙ sym q.1, (λ a b p q. p.1 ∙ sym q.1, (differs_once, (λ a b p q. p.returned ∙ sym q.returned, tt))))))),
   )
 
   pub one_signing_refusal : (a b : AuthenticodeError) → IsFirstBroken (signing_rules judge f d g) a → IsFirstBroken (signing_rules judge f d g) b → a ≡ b
-  one_signing_refusal = one_broken (signing_rules judge f d g) signing_rules_are_told_once
+  one_signing_refusal = one_broken (signing_rules judge f d g) signing_rules_are_returned_once
 
   -- ---- none of them reports out of memory
 
@@ -224,16 +224,16 @@ module _ (judge : Judge) (f : SignedDataElements) (d : IndirectData) (g : Signer
   no_purpose : errors.Memory ≡ errors.NoEKUCodeSigning → ⊥
   no_purpose e = absurd cc
 
-  pub memory_breaks_no_rule : NoneTells (signing_rules judge f d g) errors.Memory
+  pub memory_breaks_no_rule : NoneReturns (signing_rules judge f d g) errors.Memory
   memory_breaks_no_rule = (
     λ p. no_key_name p.2,
     (
-      λ p. no_certificate p.issuer p.serial_number p.told,
+      λ p. no_certificate p.issuer p.serial_number p.returned,
       (
         λ p. no_algorithm p.1 p.2,
         (
-          λ p. no_signature p.refused.source p.refused.told,
-          (λ p. no_message p.1, (λ p. no_hash p.1, (λ p. no_mismatch p.actual (digest_of p.hash (digested_octets d)) p.told, (λ p. no_purpose p.told, tt)))),
+          λ p. no_signature p.refused.source p.refused.returned,
+          (λ p. no_message p.1, (λ p. no_hash p.1, (λ p. no_mismatch p.actual (digest_of p.hash (digested_octets d)) p.returned, (λ p. no_purpose p.returned, tt)))),
         ),
       ),
     ),

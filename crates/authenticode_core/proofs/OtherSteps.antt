@@ -78,12 +78,12 @@ passed_at : (bag : List CertificateElements) (subject : DerElement) (path : List
 passed_at bag subject path place c behind stands has (inl others) = others.1
 passed_at bag subject path place c behind stands has (inr others) = absurd (others.0 (c, stands, has))
 
-told_at : (bag : List CertificateElements) (subject : DerElement) (path : List ℕ) (place : ℕ) (c : CertificateElements) (behind : List ℕ) → StandsAt bag place c → (HasSubject subject c → ⊥) → AreOthers bag subject (place ∷ behind) path
+returned_at : (bag : List CertificateElements) (subject : DerElement) (path : List ℕ) (place : ℕ) (c : CertificateElements) (behind : List ℕ) → StandsAt bag place c → (HasSubject subject c → ⊥) → AreOthers bag subject (place ∷ behind) path
     → (rest : List ℕ) × (path ≡ place ∷ rest) × AreOthers bag subject behind rest
-told_at bag subject path place c behind stands fails (inl others) =
+returned_at bag subject path place c behind stands fails (inl others) =
     let has = others.0 in
     absurd (fails (subst (HasSubject subject) (same_certificate bag place place c has.0 refl stands has.1) has.2))
-told_at bag subject path place c behind stands fails (inr others) = (others.1, others.2, others.3)
+returned_at bag subject path place c behind stands fails (inr others) = (others.1, others.2, others.3)
 
 module _ (cursor new : Others) (bag : List CertificateElements) (same : new.subject.now ≡ cursor.subject.now) where
   -- what the source yields next
@@ -103,11 +103,11 @@ module _ (cursor new : Others) (bag : List CertificateElements) (same : new.subj
       }
 
   -- one with another subject is returned
-  pub told : (place : ℕ) (c : CertificateElements) → Steps place c → ((subject : DerElement) → cursor.subject.now ≡ encoding subject → HasSubject subject c → ⊥) → (places : List ℕ) → AreLeft cursor bag places
+  pub returned : (place : ℕ) (c : CertificateElements) → Steps place c → ((subject : DerElement) → cursor.subject.now ≡ encoding subject → HasSubject subject c → ⊥) → (places : List ℕ) → AreLeft cursor bag places
       → (behind : List ℕ) × IsFirstOf bag places place c behind × AreLeft new bag behind
-  told place c steps fails places left =
+  returned place c steps fails places left =
       let moved = steps left.given left.gives in
-      let others = told_at bag left.subject places place c moved.0 moved.1.stands (fails left.subject left.octets) (others_along bag left.subject left.given places place c moved.0 moved.1 left.others) in (
+      let others = returned_at bag left.subject places place c moved.0 moved.1.stands (fails left.subject left.octets) (others_along bag left.subject left.given places place c moved.0 moved.1 left.others) in (
         others.0,
         record { are = others.1; stands = moved.1.stands },
         record { subject = left.subject; octets = same ∙ left.octets; given = moved.0; gives = moved.2; others = others.2 },

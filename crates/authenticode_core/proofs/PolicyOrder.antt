@@ -4,7 +4,7 @@ use Rattle.std.proofs.Common.{◌≡◌, ℕ, List, [], ◌++◌, Bool, Option, 
 use Rattle.std.specs.Prelude.{IfSome}
 use Rattle.cms_types.specs.SignedDataElements.{SignedDataElements}
 use Rattle.der_core.specs.Rules.{Rule, IsFirstBroken}
-use Rattle.der_core.proofs.RuleLists.{AreMet, AreToldOnce, broken_before, broken_behind, met_together, none_broken, told_together}
+use Rattle.der_core.proofs.RuleLists.{AreMet, AreReturnedOnce, broken_before, broken_behind, met_together, none_broken, returned_together}
 use Rattle.key_core.specs.Verifying.{Judge}
 use Rattle.authenticode_core.specs.Inside.PolicySteps.{IsListedAt, IsPlaceAsked, IsSignerAsked, IsVouchedAt, at_place}
 use Rattle.authenticode_core.specs.Inside.SigningSteps.{HasSignerAt}
@@ -16,9 +16,9 @@ use Rattle.authenticode_core.specs.declared.accepted.Accepted.{Accepted}
 use Rattle.authenticode_core.specs.declared.accepted.Excuse.TheVariants as excuses
 use Rattle.authenticode_core.specs.declared.error.AuthenticodeError.{AuthenticodeError}
 use Rattle.authenticode_core.specs.declared.policy.Policy.{Policy}
-use Rattle.authenticode_core.proofs.BasicOrder.{basic_met, basic_told, one_vouched_place, shape_in_basic}
-use Rattle.authenticode_core.proofs.CaOrder.{ca_met, ca_told}
-use Rattle.authenticode_core.proofs.OneSignerRule.{same_accepted, signer_met, signer_told, vouched_once}
+use Rattle.authenticode_core.proofs.BasicOrder.{basic_met, basic_returned, one_vouched_place, shape_in_basic}
+use Rattle.authenticode_core.proofs.CaOrder.{ca_met, ca_returned}
+use Rattle.authenticode_core.proofs.OneSignerRule.{same_accepted, signer_met, signer_returned, vouched_once}
 use Rattle.authenticode_core.proofs.OneSigning.{signer_once}
 
 -- ---- rules that are checked
@@ -30,9 +30,9 @@ asked_met : (b : Bool) (rules : List (Rule AuthenticodeError)) → (IsTrue b →
 asked_met true rules met = met refl
 asked_met false rules met = tt
 
-pub asked_told : (b : Bool) (rules : List (Rule AuthenticodeError)) → AreToldOnce rules → AreToldOnce (asked b rules)
-asked_told true rules told = told
-asked_told false rules told = tt
+pub asked_returned : (b : Bool) (rules : List (Rule AuthenticodeError)) → AreReturnedOnce rules → AreReturnedOnce (asked b rules)
+asked_returned true rules returned = returned
+asked_returned false rules returned = tt
 
 behind_asked : (b : Bool) (rules others : List (Rule AuthenticodeError)) (e : AuthenticodeError) → b ≡ true → AreMet rules → IsFirstBroken others e → IsFirstBroken (rules ++ asked b others) e
 behind_asked true rules others e on met broken = broken_behind rules others e met broken
@@ -56,12 +56,12 @@ module _ (judge : Judge) (policy : Policy) (f : SignedDataElements) where
 
   -- ---- each is reported by one error
 
-  later_told : AreToldOnce later_rules
-  later_told =
-      told_together signer_part ca_part (asked_told policy.signing (signer_rules judge policy f) (signer_told judge policy f)) (asked_told policy.against_list (ca_rules policy f) (ca_told policy f))
+  later_returned : AreReturnedOnce later_rules
+  later_returned =
+      returned_together signer_part ca_part (asked_returned policy.signing (signer_rules judge policy f) (signer_returned judge policy f)) (asked_returned policy.against_list (ca_rules policy f) (ca_returned policy f))
 
-  pub policy_told : AreToldOnce (policy_rules judge policy f)
-  policy_told = told_together first_rules later_rules (asked_told policy.basic (basic_rules judge f given) (basic_told f given judge)) later_told
+  pub policy_returned : AreReturnedOnce (policy_rules judge policy f)
+  policy_returned = returned_together first_rules later_rules (asked_returned policy.basic (basic_rules judge f given) (basic_returned f given judge)) later_returned
 
   -- ---- trusted signed data breaks none
 
@@ -114,94 +114,94 @@ module _ (judge : Judge) (policy : Policy) (f : SignedDataElements) where
   basic_refuses e (inl broken) = inl (broken_before first_rules later_rules e broken)
   basic_refuses e (inr memory) = inr memory
 
-  place_met : (b : Bool) (told : Option ℕ) → IsPlaceAsked b judge given f told → AreMet (asked b (basic_rules judge f given))
-  place_met true told at = basic_met f given judge at.0 at.1
-  place_met false told none = tt
+  place_met : (b : Bool) (returned : Option ℕ) → IsPlaceAsked b judge given f returned → AreMet (asked b (basic_rules judge f given))
+  place_met true returned at = basic_met f given judge at.0 at.1
+  place_met false returned none = tt
 
   -- the index that basic validation reports is that of the signer's certificate
-  pub place_is_signers : (b : Bool) (told : Option ℕ) → IsPlaceAsked b judge given f told → IfSome told (HasSignerAt f)
-  place_is_signers true told at =
+  pub place_is_signers : (b : Bool) (returned : Option ℕ) → IsPlaceAsked b judge given f returned → IfSome returned (HasSignerAt f)
+  place_is_signers true returned at =
       let s = at.1.2.signed in
       subst (λ (t : Option ℕ). IfSome t (HasSignerAt f)) (sym at.2) (s.certificate, (s.bag, s.is_bag, s.is_signer))
-  place_is_signers false told none = subst (λ (t : Option ℕ). IfSome t (HasSignerAt f)) (sym none) tt
+  place_is_signers false returned none = subst (λ (t : Option ℕ). IfSome t (HasSignerAt f)) (sym none) tt
 
   -- ---- acceptance
 
-  placed : (b : Bool) (told : Option ℕ) (a : Accepted) → IsPlaceAsked b judge given f told → b ≡ true → ((place : ℕ) → IsVouchedAt judge given f place → told ≡ Some place → a.signer ≡ Some place) → IsBasicallyVouched judge given f a
-  placed true told a at on signer = record { hash = at.1.0; given = at.1.1; place = at.0; vouches = at.1.2; place_is = signer at.0 at.1 at.2 }
-  placed false told a at on signer = absurd (cc on)
+  placed : (b : Bool) (returned : Option ℕ) (a : Accepted) → IsPlaceAsked b judge given f returned → b ≡ true → ((place : ℕ) → IsVouchedAt judge given f place → returned ≡ Some place → a.signer ≡ Some place) → IsBasicallyVouched judge given f a
+  placed true returned a at on signer = record { hash = at.1.0; given = at.1.1; place = at.0; vouches = at.1.2; place_is = signer at.0 at.1 at.2 }
+  placed false returned a at on signer = absurd (cc on)
 
   same_signer : (a : Accepted) → (v : IsSignerVouched judge policy f a) → (place : ℕ) → IsVouchedAt judge given f place → a.signer ≡ Some place
   same_signer a v place at =
       let s = at.2.signed in
       v.place_is ∙ ap Some (signer_once f v.bag s.bag v.place place v.signer.elements s.certificate v.is.is_bag s.is_bag v.is.is_signer s.is_signer).0
 
-  unplaced : (b : Bool) (told : Option ℕ) → IsPlaceAsked b judge given f told → b ≡ false → told ≡ None
-  unplaced true told at off = absurd (cc off)
-  unplaced false told none off = none
+  unplaced : (b : Bool) (returned : Option ℕ) → IsPlaceAsked b judge given f returned → b ≡ false → returned ≡ None
+  unplaced true returned at off = absurd (cc off)
+  unplaced false returned none off = none
 
   abbrev accepted_with : Option ℕ → List ℕ → Accepted
-  accepted_with told path = record { signer = told; path = path; excuse = excuses.None }
+  accepted_with returned path = record { signer = returned; path = path; excuse = excuses.None }
 
   -- ---- if the signer's certificate is checked, and if it isn't
 
-  pub signer_on : (b : Bool) (told : Option ℕ) (r : Result Accepted AuthenticodeError) → b ≡ true → MatchResult r (IsSignerVouched judge policy f) (RefusesAuthenticodeBy (signer_rules judge policy f))
-      → MatchResult r (IsSignerAsked b judge policy f told) (RefusesAuthenticodeBy (asked b (signer_rules judge policy f)))
-  signer_on true told r on answer = answer
-  signer_on false told r on answer = absurd cc
+  pub signer_on : (b : Bool) (returned : Option ℕ) (r : Result Accepted AuthenticodeError) → b ≡ true → MatchResult r (IsSignerVouched judge policy f) (RefusesAuthenticodeBy (signer_rules judge policy f))
+      → MatchResult r (IsSignerAsked b judge policy f returned) (RefusesAuthenticodeBy (asked b (signer_rules judge policy f)))
+  signer_on true returned r on answer = answer
+  signer_on false returned r on answer = absurd cc
 
-  pub signer_off : (b : Bool) (told : Option ℕ) (path : List ℕ) → b ≡ false → path ≡ [] → IsSignerAsked b judge policy f told (accepted_with told path)
-  signer_off true told path off empty = absurd cc
-  signer_off false told path off empty = (refl, empty, refl)
+  pub signer_off : (b : Bool) (returned : Option ℕ) (path : List ℕ) → b ≡ false → path ≡ [] → IsSignerAsked b judge policy f returned (accepted_with returned path)
+  signer_off true returned path off empty = absurd cc
+  signer_off false returned path off empty = (refl, empty, refl)
 
-  signer_part_met : (b : Bool) (told : Option ℕ) (a : Accepted) → IsSignerAsked b judge policy f told a → AreMet (asked b (signer_rules judge policy f))
-  signer_part_met true told a v = signer_met judge policy f a v
-  signer_part_met false told a v = tt
+  signer_part_met : (b : Bool) (returned : Option ℕ) (a : Accepted) → IsSignerAsked b judge policy f returned a → AreMet (asked b (signer_rules judge policy f))
+  signer_part_met true returned a v = signer_met judge policy f a v
+  signer_part_met false returned a v = tt
 
   -- the reported index is that of the signer's certificate
-  pub told_is_signers : (b : Bool) (told : Option ℕ) (a : Accepted) → IsSignerAsked b judge policy f told a → IfSome told (HasSignerAt f) → IfSome a.signer (HasSignerAt f)
-  told_is_signers true told a v has = subst (λ (t : Option ℕ). IfSome t (HasSignerAt f)) (sym v.place_is) (v.signer.elements, (v.bag, v.is.is_bag, v.is.is_signer))
-  told_is_signers false told a v has = subst (λ (t : Option ℕ). IfSome t (HasSignerAt f)) (sym v.0) has
+  pub returned_is_signers : (b : Bool) (returned : Option ℕ) (a : Accepted) → IsSignerAsked b judge policy f returned a → IfSome returned (HasSignerAt f) → IfSome a.signer (HasSignerAt f)
+  returned_is_signers true returned a v has = subst (λ (t : Option ℕ). IfSome t (HasSignerAt f)) (sym v.place_is) (v.signer.elements, (v.bag, v.is.is_bag, v.is.is_signer))
+  returned_is_signers false returned a v has = subst (λ (t : Option ℕ). IfSome t (HasSignerAt f)) (sym v.0) has
 
-  pub signer_refuses : (told : Option ℕ) → IsPlaceAsked policy.basic judge given f told → (e : AuthenticodeError) → RefusesAuthenticodeBy signer_part e → RefusesAuthenticodeBy (policy_rules judge policy f) e
-  signer_refuses told at e (inl broken) = inl (broken_behind first_rules later_rules e (place_met policy.basic told at) (broken_before signer_part ca_part e broken))
-  signer_refuses told at e (inr memory) = inr memory
+  pub signer_refuses : (returned : Option ℕ) → IsPlaceAsked policy.basic judge given f returned → (e : AuthenticodeError) → RefusesAuthenticodeBy signer_part e → RefusesAuthenticodeBy (policy_rules judge policy f) e
+  signer_refuses returned at e (inl broken) = inl (broken_behind first_rules later_rules e (place_met policy.basic returned at) (broken_before signer_part ca_part e broken))
+  signer_refuses returned at e (inr memory) = inr memory
 
-  module _ (told : Option ℕ) (a : Accepted) where
-    told_there : (b : Bool) → IsSignerAsked b judge policy f told a → (place : ℕ) → IsVouchedAt judge given f place → told ≡ Some place → a.signer ≡ Some place
-    told_there true v place vouched is = same_signer a v place vouched
-    told_there false v place vouched is = v.0 ∙ is
+  module _ (returned : Option ℕ) (a : Accepted) where
+    returned_there : (b : Bool) → IsSignerAsked b judge policy f returned a → (place : ℕ) → IsVouchedAt judge given f place → returned ≡ Some place → a.signer ≡ Some place
+    returned_there true v place vouched is = same_signer a v place vouched
+    returned_there false v place vouched is = v.0 ∙ is
 
-    vouched_on : (b : Bool) → IsSignerAsked b judge policy f told a → b ≡ true → IsSignerVouched judge policy f a
+    vouched_on : (b : Bool) → IsSignerAsked b judge policy f returned a → b ≡ true → IsSignerVouched judge policy f a
     vouched_on true v on = v
     vouched_on false v on = absurd cc
 
-    pathless_off : (b : Bool) → IsSignerAsked b judge policy f told a → b ≡ false → (a.path ≡ []) × (a.excuse ≡ excuses.None)
+    pathless_off : (b : Bool) → IsSignerAsked b judge policy f returned a → b ≡ false → (a.path ≡ []) × (a.excuse ≡ excuses.None)
     pathless_off true v off = absurd cc
     pathless_off false v off = (v.1, v.2)
 
-    placeless_off : (b : Bool) → IsSignerAsked b judge policy f told a → told ≡ None → b ≡ false → a.signer ≡ None
+    placeless_off : (b : Bool) → IsSignerAsked b judge policy f returned a → returned ≡ None → b ≡ false → a.signer ≡ None
     placeless_off true v none off = absurd cc
     placeless_off false v none off = v.0 ∙ none
 
-    module _ (at : IsPlaceAsked policy.basic judge given f told) where
-      module _ (v : IsSignerAsked policy.signing judge policy f told a) where
+    module _ (at : IsPlaceAsked policy.basic judge given f returned) where
+      module _ (v : IsSignerAsked policy.signing judge policy f returned a) where
         -- ---- if its CA isn't checked
 
         pub without_list : policy.against_list ≡ false → IsTrusted judge policy f a
         without_list off = record {
-          basic = λ on. placed policy.basic told a at on (told_there policy.signing v);
+          basic = λ on. placed policy.basic returned a at on (returned_there policy.signing v);
           signing = λ on. vouched_on policy.signing v on;
           listed = λ on. absurd (on_or_off policy.against_list on off);
           pathless = λ none. pathless_off policy.signing v none;
-          placeless = λ basic signing none. placeless_off policy.signing v (unplaced policy.basic told at basic) signing;
+          placeless = λ basic signing none. placeless_off policy.signing v (unplaced policy.basic returned at basic) signing;
         }
 
         -- ---- and if it is
 
         pub ca_refuses : (e : AuthenticodeError) → policy.against_list ≡ true → RefusesAuthenticodeBy (ca_rules policy f) e → RefusesAuthenticodeBy (policy_rules judge policy f) e
         ca_refuses e on (inl broken) =
-            inl (broken_behind first_rules later_rules e (place_met policy.basic told at) (behind_asked policy.against_list signer_part (ca_rules policy f) e on (signer_part_met policy.signing told a v) broken))
+            inl (broken_behind first_rules later_rules e (place_met policy.basic returned at) (behind_asked policy.against_list signer_part (ca_rules policy f) e on (signer_part_met policy.signing returned a v) broken))
         ca_refuses e on (inr memory) = inr memory
 
         module _ (place : ℕ) (at_list : IsListedAt policy f place) (on : policy.against_list ≡ true) where
@@ -226,7 +226,7 @@ module _ (judge : Judge) (policy : Policy) (f : SignedDataElements) where
 
           pub with_list : IsTrusted judge policy f (at_place a place)
           with_list = record {
-            basic = λ basic. placed policy.basic told (at_place a place) at basic (λ other vouched is. ap Some (same_as other vouched));
+            basic = λ basic. placed policy.basic returned (at_place a place) at basic (λ other vouched is. ap Some (same_as other vouched));
             signing = λ signing. vouched_there (vouched_on policy.signing v signing);
             listed = λ list. record { bag = there.1.0; is_bag = there.1.1; place = place; certificate = there.0; is_signer = there.1.2; place_is = refl; listed = at_list.1 };
             pathless = λ none. pathless_off policy.signing v none;
@@ -256,7 +256,7 @@ module _ (judge : Judge) (policy : Policy) (f : SignedDataElements) where
   asked_shape false e on broken = absurd broken
 
 -- the refusals of one result are the same error
-pub told_same : {A : Type 0} (r : Result A AuthenticodeError) (d e : AuthenticodeError) → r ≡ Err d → r ≡ Err e → d ≡ e
-told_same r d e p q =
+pub returned_same : {A : Type 0} (r : Result A AuthenticodeError) (d e : AuthenticodeError) → r ≡ Err d → r ≡ Err e → d ≡ e
+returned_same r d e p q =
     let same = sym p ∙ q in
     cc

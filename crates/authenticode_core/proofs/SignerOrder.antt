@@ -9,7 +9,7 @@ use Rattle.der_core.proofs.RuleLists.{AreMet, broken_before, broken_behind}
 use Rattle.key_core.specs.Verifying.{Judge}
 use Rattle.names_core.specs.declared.name.DirectoryName.{DirectoryName}
 use Rattle.x509_core.proofs.OneLink.{window_once}
-use Rattle.x509_core.proofs.Validity.{expired_is_told, told_is_expired, valid_is_met}
+use Rattle.x509_core.proofs.Validity.{expired_is_returned, returned_is_expired, valid_is_met}
 use Rattle.x509_core.specs.Chain.{IsDated, LacksDate}
 use Rattle.x509_core.specs.Facts.Certs.{same_kept}
 use Rattle.x509_core.specs.KeptCertificate.{KeptCertificate}
@@ -25,7 +25,7 @@ use Rattle.x509_types.specs.CertificateElements.{CertificateElements}
 use Rattle.authenticode_core.specs.ContentRefusal.{of_certificates}
 use Rattle.authenticode_core.specs.Inside.Form.{AreSpelled}
 use Rattle.authenticode_core.specs.Excuses.{HasBadStamp, HasNoExcuse, HasReason}
-use Rattle.authenticode_core.specs.Inside.PolicySteps.{IsExpiry, IsUnlinkedPath, TellsExpiry, valid_and_vouched_rules, validity_rules}
+use Rattle.authenticode_core.specs.Inside.PolicySteps.{IsExpiry, IsUnlinkedPath, ReturnsExpiry, valid_and_vouched_rules, validity_rules}
 use Rattle.authenticode_core.specs.Inside.SigningSteps.{HasSigner}
 use Rattle.authenticode_core.specs.IssuerWalk.{IsIssuerPath}
 use Rattle.authenticode_core.specs.LinkedPath.{IsPathAsked, IsUnlinkedAt, IsVouchedPath}
@@ -40,7 +40,7 @@ use Rattle.authenticode_core.specs.declared.error.AuthenticodeError.{Authenticod
 use Rattle.authenticode_core.specs.declared.error.AuthenticodeError.TheVariants as errors
 use Rattle.authenticode_core.specs.declared.policy.Policy.{Policy}
 use Rattle.authenticode_core.proofs.FormFields.{signer_is_spelled, signer_once as first_once}
-use Rattle.authenticode_core.proofs.OneExcuse.{bad_stamp_is_no_reason, bad_stamp_is_told, reason_or_not}
+use Rattle.authenticode_core.proofs.OneExcuse.{bad_stamp_is_no_reason, bad_stamp_is_returned, reason_or_not}
 use Rattle.authenticode_core.proofs.OneSigning.{certificate_is_met, named_is_met, same_bag, signer_once}
 
 -- ---- the signer's certificate is unique
@@ -88,27 +88,27 @@ lacks_signer f spelled none = no_signer_in f (signers_of f) spelled refl none
 
 -- ---- what is reported of certificates
 
-pub told_of_certificates : (e : CertError) → (of_certificates e ≡ errors.CertError e) ⊎ (e ≡ cert_errors.Memory)
-told_of_certificates (cert_errors.CertGeneration source) = inl refl
-told_of_certificates (cert_errors.InvalidCertificate id source) = inl refl
-told_of_certificates (cert_errors.Asn1Serialization element source) = inl refl
-told_of_certificates (cert_errors.Asn1Deserialization element source) = inl refl
-told_of_certificates (cert_errors.Signature source) = inl refl
-told_of_certificates (cert_errors.KeyIdGen source) = inl refl
-told_of_certificates (cert_errors.InvalidChain source) = inl refl
-told_of_certificates (cert_errors.InvalidCsr source) = inl refl
-told_of_certificates (cert_errors.ExtensionNotFound name) = inl refl
-told_of_certificates (cert_errors.MissingBuilderArgument arg) = inl refl
-told_of_certificates (cert_errors.CertificateNotYetValid not_before now) = inl refl
-told_of_certificates (cert_errors.CertificateExpired not_after now) = inl refl
-told_of_certificates (cert_errors.PrivateKeyToPublicKey source) = inl refl
-told_of_certificates cert_errors.Memory = inr refl
+pub returned_of_certificates : (e : CertError) → (of_certificates e ≡ errors.CertError e) ⊎ (e ≡ cert_errors.Memory)
+returned_of_certificates (cert_errors.CertGeneration source) = inl refl
+returned_of_certificates (cert_errors.InvalidCertificate id source) = inl refl
+returned_of_certificates (cert_errors.Asn1Serialization element source) = inl refl
+returned_of_certificates (cert_errors.Asn1Deserialization element source) = inl refl
+returned_of_certificates (cert_errors.Signature source) = inl refl
+returned_of_certificates (cert_errors.KeyIdGen source) = inl refl
+returned_of_certificates (cert_errors.InvalidChain source) = inl refl
+returned_of_certificates (cert_errors.InvalidCsr source) = inl refl
+returned_of_certificates (cert_errors.ExtensionNotFound name) = inl refl
+returned_of_certificates (cert_errors.MissingBuilderArgument arg) = inl refl
+returned_of_certificates (cert_errors.CertificateNotYetValid not_before now) = inl refl
+returned_of_certificates (cert_errors.CertificateExpired not_after now) = inl refl
+returned_of_certificates (cert_errors.PrivateKeyToPublicKey source) = inl refl
+returned_of_certificates cert_errors.Memory = inr refl
 
-undated_told : (policy : Policy) (cause : CertError) → LacksDate (policy_checks policy) cause → of_certificates cause ≡ errors.CertError cause
-undated_told policy cause lacks = ap of_certificates lacks.2 ∙ sym (ap errors.CertError lacks.2)
+undated_returned : (policy : Policy) (cause : CertError) → LacksDate (policy_checks policy) cause → of_certificates cause ≡ errors.CertError cause
+undated_returned policy cause lacks = ap of_certificates lacks.2 ∙ sym (ap errors.CertError lacks.2)
 
-outside_told : (w : Window) (signer : KeptCertificate) (cause : CertError) → IsOutside w signer cause → of_certificates cause ≡ errors.CertError cause
-outside_told w signer cause outside = ap of_certificates outside.told ∙ sym (ap errors.CertError outside.told)
+outside_returned : (w : Window) (signer : KeptCertificate) (cause : CertError) → IsOutside w signer cause → of_certificates cause ≡ errors.CertError cause
+outside_returned w signer cause outside = ap of_certificates outside.returned ∙ sym (ap errors.CertError outside.returned)
 
 -- ---- expired certificates, and what is reported of them
 
@@ -118,16 +118,16 @@ valid_or_expired w c valid expired = valid.lasts expired.1.2.asked expired.1.0 e
 same_cause : (a b : DirectoryName) (x y : CertCause) → cert_errors.InvalidCertificate a x ≡ cert_errors.InvalidCertificate b y → x ≡ y
 same_cause a b x y e = cc
 
-pub expired_if_told : (w : Window) (signer : KeptCertificate) (cause : CertError) → IsOutside w signer cause → TellsExpiry cause → IsExpired w signer.elements
-expired_if_told w signer cause outside tells =
-    let same : outside.cause ≡ causes.CertificateExpired tells.2.0 tells.2.1 = same_cause outside.id tells.0 outside.cause tells.1 (sym outside.told ∙ tells.3) ∙ tells.2.2 in
-    told_is_expired w signer.elements (tells.2.0, tells.2.1, subst (λ (x : CertCause). IsFirstBroken (window_rules w signer.elements) x) same outside.broken)
+pub expired_if_returned : (w : Window) (signer : KeptCertificate) (cause : CertError) → IsOutside w signer cause → ReturnsExpiry cause → IsExpired w signer.elements
+expired_if_returned w signer cause outside returns =
+    let same : outside.cause ≡ causes.CertificateExpired returns.2.0 returns.2.1 = same_cause outside.id returns.0 outside.cause returns.1 (sym outside.returned ∙ returns.3) ∙ returns.2.2 in
+    returned_is_expired w signer.elements (returns.2.0, returns.2.1, subst (λ (x : CertCause). IsFirstBroken (window_rules w signer.elements) x) same outside.broken)
 
-unexpired_if_untold : (w : Window) (signer : KeptCertificate) (cause : CertError) → IsOutside w signer cause → (TellsExpiry cause → ⊥) → IsExpired w signer.elements → ⊥
+unexpired_if_untold : (w : Window) (signer : KeptCertificate) (cause : CertError) → IsOutside w signer cause → (ReturnsExpiry cause → ⊥) → IsExpired w signer.elements → ⊥
 unexpired_if_untold w signer cause outside untold expired =
-    let told = expired_is_told w signer.elements expired in
-    let same : outside.cause ≡ causes.CertificateExpired told.0 told.1 = window_once w signer.elements outside.cause (causes.CertificateExpired told.0 told.1) outside.broken told.2 in
-    untold (outside.id, outside.cause, (told.0, told.1, same), outside.told)
+    let returned = expired_is_returned w signer.elements expired in
+    let same : outside.cause ≡ causes.CertificateExpired returned.0 returned.1 = window_once w signer.elements outside.cause (causes.CertificateExpired returned.0 returned.1) outside.broken returned.2 in
+    untold (outside.id, outside.cause, (returned.0, returned.1, same), outside.returned)
 
 -- the value of an option, or that it has none
 pub given : {X : Type 0} (o : Option X) (x : X) (N : Type 0) (P : X → Type 0) → o ≡ Some x → MatchOption o N P → P x
@@ -154,7 +154,7 @@ module _ (judge : Judge) (policy : Policy) (f : SignedDataElements) where
 
   pub undated : (place : ℕ) (c : CertificateElements) (cause : CertError) → HasSigner f place c → LacksDate (policy_checks policy) cause → RefusesAuthenticodeBy (signer_rules judge policy f) (of_certificates cause)
   undated place c cause s lacks =
-      inl (broken_behind (named_rules f) (IsUndated policy ∷ valid_and_vouched_rules judge policy f) (of_certificates cause) (named_met f s.0 place c s.1 s.2) (inl (cause, lacks, undated_told policy cause lacks)))
+      inl (broken_behind (named_rules f) (IsUndated policy ∷ valid_and_vouched_rules judge policy f) (of_certificates cause) (named_met f s.0 place c s.1 s.2) (inl (cause, lacks, undated_returned policy cause lacks)))
 
   pub not_valid_and_vouched : (place : ℕ) (c : CertificateElements) (e : AuthenticodeError) → HasSigner f place c → IsDated (policy_checks policy) → RefusesAuthenticodeBy (valid_and_vouched_rules judge policy f) e → RefusesAuthenticodeBy (signer_rules judge policy f) e
   not_valid_and_vouched place c e s dated (inl broken) =
@@ -181,18 +181,18 @@ module _ (judge : Judge) (policy : Policy) (f : SignedDataElements) where
   module _ (bag : List CertificateElements) (place : ℕ) (signer : KeptCertificate) (is : IsKeptSigner f bag place signer) where
     pub unbegun_at : (e : AuthenticodeError) → IsUnbegun policy f e → UnbegunAt e bag signer
     unbegun_at e broken =
-        moved (UnbegunAt e) f broken.bag bag broken.place place broken.signer signer broken.is is (broken.unexpired, broken.cause, broken.outside, broken.told)
+        moved (UnbegunAt e) f broken.bag bag broken.place place broken.signer signer broken.is is (broken.unexpired, broken.cause, broken.outside, broken.returned)
 
     pub unexcused_at : (e : AuthenticodeError) → IsUnexcused policy f e → UnexcusedAt e bag signer
     unexcused_at e broken =
-        moved (UnexcusedAt e) f broken.bag bag broken.place place broken.signer signer broken.is is (broken.expired, broken.unexcused, broken.cause, broken.outside, broken.told)
+        moved (UnexcusedAt e) f broken.bag bag broken.place place broken.signer signer broken.is is (broken.expired, broken.unexcused, broken.cause, broken.outside, broken.returned)
 
     pub stamped_at : (e : AuthenticodeError) → IsBadlyStamped judge policy f e → StampedAt e bag signer
     stamped_at e broken = moved (StampedAt e) f broken.bag bag broken.place place broken.signer signer broken.is is (broken.expired, broken.stamp)
 
     pub unvouched_at : (e : AuthenticodeError) → IsUnvouched judge policy f e → UnvouchedAt e bag signer
     unvouched_at e broken =
-        moved (UnvouchedAt e) f broken.bag bag broken.place place broken.signer signer broken.is is (broken.asked, broken.path, broken.cause, broken.is_path, broken.unlinked, broken.told)
+        moved (UnvouchedAt e) f broken.bag bag broken.place place broken.signer signer broken.is is (broken.asked, broken.path, broken.cause, broken.is_path, broken.unlinked, broken.returned)
 
     -- ---- what meets them
 
@@ -224,11 +224,11 @@ module _ (judge : Judge) (policy : Policy) (f : SignedDataElements) where
     validity_met excuses.Token valid = excuse_met excuses.Token valid.0 valid.1
 
     pub unexcused_met : (e : AuthenticodeError) → HasBadStamp judge policy f bag signer.elements e → IsMet (IsUnexcused policy f)
-    unexcused_met e stamp = λ x broken. bad_stamp_is_told judge policy f bag signer.elements e stamp (unexcused_at x broken).1
+    unexcused_met e stamp = λ x broken. bad_stamp_is_returned judge policy f bag signer.elements e stamp (unexcused_at x broken).1
 
     -- ---- refusals
 
-    pub unbegun : (cause : CertError) → IsOutside (window_of policy) signer cause → (TellsExpiry cause → ⊥) → RefusesAuthenticodeBy (validity_rules judge policy f) (of_certificates cause)
+    pub unbegun : (cause : CertError) → IsOutside (window_of policy) signer cause → (ReturnsExpiry cause → ⊥) → RefusesAuthenticodeBy (validity_rules judge policy f) (of_certificates cause)
     unbegun cause outside untold = inl (inl (record {
       bag = bag;
       place = place;
@@ -237,7 +237,7 @@ module _ (judge : Judge) (policy : Policy) (f : SignedDataElements) where
       unexpired = unexpired_if_untold (window_of policy) signer cause outside untold;
       cause = cause;
       outside = outside;
-      told = outside_told (window_of policy) signer cause outside;
+      returned = outside_returned (window_of policy) signer cause outside;
     }))
 
     pub unexcused : (cause : CertError) → IsOutside (window_of policy) signer cause → IsExpired (window_of policy) signer.elements → HasNoExcuse f bag signer.elements → RefusesAuthenticodeBy (validity_rules judge policy f) (of_certificates cause)
@@ -252,7 +252,7 @@ module _ (judge : Judge) (policy : Policy) (f : SignedDataElements) where
         unexcused = none;
         cause = cause;
         outside = outside;
-        told = outside_told (window_of policy) signer cause outside;
+        returned = outside_returned (window_of policy) signer cause outside;
       }),
     ))
 
@@ -265,9 +265,9 @@ module _ (judge : Judge) (policy : Policy) (f : SignedDataElements) where
     before_path e (inl broken) = inl (broken_before (validity_rules judge policy f) (IsUnvouched judge policy f ∷ []) e broken)
     before_path e (inr memory) = inr memory
 
-    unvouched_told : (x : Excuse) (cause : CertError) → IsValidOrExcusable judge policy f bag signer.elements x → IsTrue policy.chain → IsUnlinkedPath judge (window_of policy) bag signer cause → (of_certificates cause ≡ errors.CertError cause) ⊎ (cause ≡ cert_errors.Memory)
+    unvouched_returned : (x : Excuse) (cause : CertError) → IsValidOrExcusable judge policy f bag signer.elements x → IsTrue policy.chain → IsUnlinkedPath judge (window_of policy) bag signer cause → (of_certificates cause ≡ errors.CertError cause) ⊎ (cause ≡ cert_errors.Memory)
         → RefusesAuthenticodeBy (valid_and_vouched_rules judge policy f) (of_certificates cause)
-    unvouched_told x cause valid asked unlinked (inl told) =
+    unvouched_returned x cause valid asked unlinked (inl returned) =
         inl (broken_behind (validity_rules judge policy f) (IsUnvouched judge policy f ∷ []) (of_certificates cause) (validity_met x valid) (inl (record {
           bag = bag;
           place = place;
@@ -280,35 +280,35 @@ module _ (judge : Judge) (policy : Policy) (f : SignedDataElements) where
           is_path = unlinked.1;
           cause = cause;
           unlinked = unlinked.2;
-          told = told;
+          returned = returned;
         })))
-    unvouched_told x cause valid asked unlinked (inr memory) = inr (ap of_certificates memory)
+    unvouched_returned x cause valid asked unlinked (inr memory) = inr (ap of_certificates memory)
 
     pub unvouched : (x : Excuse) (cause : CertError) → IsValidOrExcusable judge policy f bag signer.elements x → IsTrue policy.chain → IsUnlinkedPath judge (window_of policy) bag signer cause → RefusesAuthenticodeBy (valid_and_vouched_rules judge policy f) (of_certificates cause)
-    unvouched x cause valid asked unlinked = unvouched_told x cause valid asked unlinked (told_of_certificates cause)
+    unvouched x cause valid asked unlinked = unvouched_returned x cause valid asked unlinked (returned_of_certificates cause)
 
     -- ---- certificates that aren't valid
 
-    expired_by : (cause : CertError) → Breaks (IsOutside (window_of policy) signer) cause → TellsExpiry cause → IsOutside (window_of policy) signer cause
-    expired_by cause (inl outside) tells = outside
-    expired_by cause (inr memory) tells =
-        let other : cert_errors.InvalidCertificate tells.0 tells.1 ≡ cert_errors.Memory = sym tells.3 ∙ memory in
+    expired_by : (cause : CertError) → Breaks (IsOutside (window_of policy) signer) cause → ReturnsExpiry cause → IsOutside (window_of policy) signer cause
+    expired_by cause (inl outside) returns = outside
+    expired_by cause (inr memory) returns =
+        let other : cert_errors.InvalidCertificate returns.0 returns.1 ≡ cert_errors.Memory = sym returns.3 ∙ memory in
         absurd cc
 
-    pub has_expired : (cause : CertError) → Breaks (IsOutside (window_of policy) signer) cause → TellsExpiry cause → IsExpired (window_of policy) signer.elements
-    has_expired cause breaks tells = expired_if_told (window_of policy) signer cause (expired_by cause breaks tells) tells
+    pub has_expired : (cause : CertError) → Breaks (IsOutside (window_of policy) signer) cause → ReturnsExpiry cause → IsExpired (window_of policy) signer.elements
+    has_expired cause breaks returns = expired_if_returned (window_of policy) signer cause (expired_by cause breaks returns) returns
 
-    pub unbegun_or_memory : (cause : CertError) → Breaks (IsOutside (window_of policy) signer) cause → (TellsExpiry cause → ⊥) → RefusesAuthenticodeBy (validity_rules judge policy f) (of_certificates cause)
+    pub unbegun_or_memory : (cause : CertError) → Breaks (IsOutside (window_of policy) signer) cause → (ReturnsExpiry cause → ⊥) → RefusesAuthenticodeBy (validity_rules judge policy f) (of_certificates cause)
     unbegun_or_memory cause (inl outside) untold = unbegun cause outside untold
     unbegun_or_memory cause (inr memory) untold = inr (ap of_certificates memory)
 
-    pub no_excuse : (cause : CertError) → Breaks (IsOutside (window_of policy) signer) cause → TellsExpiry cause → HasNoExcuse f bag signer.elements → RefusesAuthenticodeBy (validity_rules judge policy f) (of_certificates cause)
-    no_excuse cause breaks tells none = unexcused cause (expired_by cause breaks tells) (has_expired cause breaks tells) none
+    pub no_excuse : (cause : CertError) → Breaks (IsOutside (window_of policy) signer) cause → ReturnsExpiry cause → HasNoExcuse f bag signer.elements → RefusesAuthenticodeBy (validity_rules judge policy f) (of_certificates cause)
+    no_excuse cause breaks returns none = unexcused cause (expired_by cause breaks returns) (has_expired cause breaks returns) none
 
-    pub stamped_or_memory : (cause : CertError) (e : AuthenticodeError) → Breaks (IsOutside (window_of policy) signer) cause → TellsExpiry cause → HasBadStamp judge policy f bag signer.elements e ⊎ (e ≡ errors.Memory)
+    pub stamped_or_memory : (cause : CertError) (e : AuthenticodeError) → Breaks (IsOutside (window_of policy) signer) cause → ReturnsExpiry cause → HasBadStamp judge policy f bag signer.elements e ⊎ (e ≡ errors.Memory)
         → RefusesAuthenticodeBy (validity_rules judge policy f) e
-    stamped_or_memory cause e breaks tells (inl stamp) = badly_stamped e (has_expired cause breaks tells) stamp
-    stamped_or_memory cause e breaks tells (inr memory) = inr memory
+    stamped_or_memory cause e breaks returns (inl stamp) = badly_stamped e (has_expired cause breaks returns) stamp
+    stamped_or_memory cause e breaks returns (inr memory) = inr memory
 
     pub unvouched_or_memory : (x : Excuse) (cause : CertError) → IsValidOrExcusable judge policy f bag signer.elements x → (IsTrue policy.chain × IsUnlinkedPath judge (window_of policy) bag signer cause) ⊎ (cause ≡ cert_errors.Memory)
         → RefusesAuthenticodeBy (valid_and_vouched_rules judge policy f) (of_certificates cause)
@@ -345,14 +345,14 @@ kept_signer f place c signer s same = record { is_bag = s.1; is_signer = subst (
 
 -- ---- whether expiry is reported
 
-pub tells_so : (e : CertError) (id : DirectoryName) (cause : CertCause) (t : Bool) → e ≡ cert_errors.InvalidCertificate id cause → (IsTrue t ↔ IsExpiry cause) → IsTrue t ↔ TellsExpiry e
-tells_so e id cause t is test = (
+pub returns_so : (e : CertError) (id : DirectoryName) (cause : CertCause) (t : Bool) → e ≡ cert_errors.InvalidCertificate id cause → (IsTrue t ↔ IsExpiry cause) → IsTrue t ↔ ReturnsExpiry e
+returns_so e id cause t is test = (
   λ on. (id, cause, test.0 on, is),
-  λ tells. test.1 (subst IsExpiry (same_cause tells.0 id tells.1 cause (sym tells.3 ∙ is)) tells.2),
+  λ returns. test.1 (subst IsExpiry (same_cause returns.0 id returns.1 cause (sym returns.3 ∙ is)) returns.2),
 )
 
-pub tells_not : (e : CertError) → ((id : DirectoryName) (cause : CertCause) → e ≡ cert_errors.InvalidCertificate id cause → ⊥) → IsTrue false ↔ TellsExpiry e
-tells_not e none = (λ on. absurd cc, λ tells. absurd (none tells.0 tells.1 tells.3))
+pub returns_not : (e : CertError) → ((id : DirectoryName) (cause : CertCause) → e ≡ cert_errors.InvalidCertificate id cause → ⊥) → IsTrue false ↔ ReturnsExpiry e
+returns_not e none = (λ on. absurd cc, λ returns. absurd (none returns.0 returns.1 returns.3))
 
 -- ---- with and without the chain
 

@@ -63,7 +63,7 @@ module _ (judge : Judge) (f : SignedDataElements) (d : IndirectData) (g : Signer
   may_not place c hash e first s named signed bound refused =
       inl (broken_behind front (digest_rules d g ++ IsNotForCodeSigning f ∷ []) e (front_is_met place c hash first s named signed)
       (broken_behind (digest_rules d g) (IsNotForCodeSigning f ∷ []) e (bound_are_met hash named bound)
-      (inl (record { bag = s.0; is_bag = s.1; place = place; certificate = c; is_signer = s.2; asks = refused.0; unnamed = refused.1; told = refused.2 }))))
+      (inl (record { bag = s.0; is_bag = s.1; place = place; certificate = c; is_signer = s.2; asks = refused.0; unnamed = refused.1; returned = refused.2 }))))
 
   -- ---- acceptance
 

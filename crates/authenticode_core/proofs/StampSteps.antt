@@ -53,9 +53,9 @@ module _ (judge : Judge) (policy : Policy) (f t : SignedDataElements) (bag : Lis
   bad : (e : AuthenticodeError) → IsFirstBroken (stamp_rules judge policy leads.bag) e → HasBadStamp judge policy f bag c e
   bad e broken = record { mortal = mortal; unnamed = unnamed; t = t; has = has; stamping_bag = leads.bag; stamping = leads.stamping; broken = broken }
 
-  pub told_or_memory : (e : AuthenticodeError) → IsUnlinkedStamp judge leads.bag e ⊎ (e ≡ errors.Memory) → HasBadStamp judge policy f bag c e ⊎ (e ≡ errors.Memory)
-  told_or_memory e (inl tells) = inl (bad e (inl tells))
-  told_or_memory e (inr memory) = inr memory
+  pub returned_or_memory : (e : AuthenticodeError) → IsUnlinkedStamp judge leads.bag e ⊎ (e ≡ errors.Memory) → HasBadStamp judge policy f bag c e ⊎ (e ≡ errors.Memory)
+  returned_or_memory e (inl returns) = inl (bad e (inl returns))
+  returned_or_memory e (inr memory) = inr memory
 
-  pub unlisted_told : (e : AuthenticodeError) → IsLinkedToken judge leads.bag → IsUnlistedStamp policy leads.bag e → HasBadStamp judge policy f bag c e ⊎ (e ≡ errors.Memory)
-  unlisted_told e linked tells = inl (bad e (inr (linked_stamp_met judge leads.bag linked, inl tells)))
+  pub unlisted_returned : (e : AuthenticodeError) → IsLinkedToken judge leads.bag → IsUnlistedStamp policy leads.bag e → HasBadStamp judge policy f bag c e ⊎ (e ≡ errors.Memory)
+  unlisted_returned e linked returns = inl (bad e (inr (linked_stamp_met judge leads.bag linked, inl returns)))

@@ -70,13 +70,13 @@ is_last place other last = is_last_at place other last.0 (omega (arith, last.1))
 -- what holds with one more index
 asks_more : (bag : List CertificateElements) (places : List ℕ) (place : ℕ) (c : CertificateElements) (asks : Bool) → StandsAt bag place c → (IsTrue asks → HasPurposesAmong bag places) → IsTrue asks ⊎ HasPurposes c
     → HasPurposesAmong bag (places ++ place ∷ [])
-asks_more bag places place c asks stands told (inl t) = still_among bag places place (told t)
-asks_more bag places place c asks stands told (inr purposes) = now_among bag places place c stands purposes
+asks_more bag places place c asks stands returned (inl t) = still_among bag places place (returned t)
+asks_more bag places place c asks stands returned (inr purposes) = now_among bag places place c stands purposes
 
 asks_back : (bag : List CertificateElements) (places : List ℕ) (place : ℕ) (c : CertificateElements) (asks : Bool) → StandsAt bag place c → (HasPurposesAmong bag places → IsTrue asks) → (h : HasPurposesAmong bag (places ++ place ∷ []))
     → Contains places h.place ⊎ Contains (place ∷ []) h.place → IsTrue asks ⊎ HasPurposes c
-asks_back bag places place c asks stands told h (inl among) = inl (told (record { place = h.place; among = among; c = h.c; stands = h.stands; purposes = h.purposes }))
-asks_back bag places place c asks stands told h (inr last) =
+asks_back bag places place c asks stands returned h (inl among) = inl (returned (record { place = h.place; among = among; c = h.c; stands = h.stands; purposes = h.purposes }))
+asks_back bag places place c asks stands returned h (inr last) =
     inr (subst HasPurposes (same_certificate bag place h.place c h.c (is_last place h.place last) stands h.stands) h.purposes)
 
 least_here : (bag : List CertificateElements) (holds : CertificateElements → Type 0) (place : ℕ) (c : CertificateElements) → StandsAt bag place c → holds c → IsLeastPlace bag holds place place c

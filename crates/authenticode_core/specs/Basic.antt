@@ -86,7 +86,7 @@ pub record IsUnreadSignature (octets : List ℕ) (e : AuthenticodeError) : Type 
   pub named : contents_in octets ≡ Ok certificate
   pub source : DerError
   pub cause : IsNoSignedData certificate source
-  pub told : e ≡ CertError (Asn1Deserialization Pkcs7 source)
+  pub returned : e ≡ CertError (Asn1Deserialization Pkcs7 source)
 
 -- ---- rules
 

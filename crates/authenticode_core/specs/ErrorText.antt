@@ -72,7 +72,7 @@ content_error_text (contents.IncorrectDigestAlgorithmsCount count) =
     codes "the signed data has " ++ decimal count ++ codes " digest algorithms, and not one"
 content_error_text contents.NoEncapsulatedContentInfo = codes "the signed data has no content"
 content_error_text contents.NoSpcIndirectDataContent =
-    codes "what is signed does not stand for a file"
+    codes "what is signed is no SpcIndirectDataContent"
 content_error_text contents.DigestAlgorithmMismatch =
     codes "the signed data names several digest algorithms"
 content_error_text (contents.FileHashMismatch actual expected) = file_mismatch_text actual expected

@@ -90,7 +90,7 @@ pub record IsUnbegun (policy : Policy) (f : SignedDataElements)
   pub unexpired : IsExpired (window_of policy) signer.elements → ⊥
   pub cause : CertError
   pub outside : IsOutside (window_of policy) signer cause
-  pub told : e ≡ errors.CertError cause
+  pub returned : e ≡ errors.CertError cause
 
 -- The signer's certificate has expired, and there is no reason to excuse it.
 pub record IsUnexcused (policy : Policy) (f : SignedDataElements)
@@ -103,7 +103,7 @@ pub record IsUnexcused (policy : Policy) (f : SignedDataElements)
   pub unexcused : HasNoExcuse f bag signer.elements
   pub cause : CertError
   pub outside : IsOutside (window_of policy) signer cause
-  pub told : e ≡ errors.CertError cause
+  pub returned : e ≡ errors.CertError cause
 
 -- The signer's certificate has expired, and the token that would excuse it has a first certificate
 -- that isn't linked to the others with another subject, or a CA that isn't on the list.
@@ -138,7 +138,7 @@ pub record IsUnvouched (judge : Judge) (policy : Policy) (f : SignedDataElements
   pub is_path : IsIssuerPath bag signer.elements path
   pub cause : CertError
   pub unlinked : IsUnlinkedAt judge (window_of policy) bag signer path cause
-  pub told : e ≡ errors.CertError cause
+  pub returned : e ≡ errors.CertError cause
 
 -- The rules for the signer's certificate, in order. That of the issuer path is the last, and holds
 -- for an excused signer too.

@@ -113,7 +113,7 @@ pub record HasNoCertificate (f : SignedDataElements) (g : SignerElements)
   pub bag : List CertificateElements
   pub is_bag : IsBagOf f bag
   pub none : HasNoSigner (signers_of f) bag
-  pub told : e ≡ errors.NoCertificatesAssociatedWithIssuerAndSerialNumber issuer serial_number
+  pub returned : e ≡ errors.NoCertificatesAssociatedWithIssuerAndSerialNumber issuer serial_number
 
 -- the digest algorithm isn't known
 abbrev pub HasUnknownDigest : SignerElements → Rule AuthenticodeError
@@ -132,7 +132,7 @@ pub record IsRefusedUnder (judge : Judge) (g : SignerElements) (hash : HashAlgor
   pub source : SignatureError
   pub refused : IsFirstBroken
       (verify_rules judge (RsaPkcs1v15 hash) info (signed_message g) signature) source
-  pub told : e ≡ errors.SignatureError source
+  pub returned : e ≡ errors.SignatureError source
 
 -- the signature isn't accepted
 pub record IsBadlySigned (judge : Judge) (f : SignedDataElements) (g : SignerElements)
@@ -165,7 +165,7 @@ pub record DigestDiffers (d : IndirectData) (g : SignerElements)
   pub actual : List ℕ
   pub has : HasMessageDigest g actual
   pub differs : actual ≢ digest_of hash (digested_octets d)
-  pub told : e ≡ errors.HashMismatch actual (digest_of hash (digested_octets d))
+  pub returned : e ≡ errors.HashMismatch actual (digest_of hash (digested_octets d))
 
 -- the signer's certificate may not sign code
 pub record IsNotForCodeSigning (f : SignedDataElements) (e : AuthenticodeError) : Type 0 where
@@ -176,7 +176,7 @@ pub record IsNotForCodeSigning (f : SignedDataElements) (e : AuthenticodeError) 
   pub is_signer : IsSignerCertificate f bag place certificate
   pub asks : AsksForPurposes bag certificate
   pub unnamed : NamesPurpose certificate KP_CODE_SIGNING.now → ⊥
-  pub told : e ≡ errors.NoEKUCodeSigning
+  pub returned : e ≡ errors.NoEKUCodeSigning
 
 -- The rules of the signature, in order.
 abbrev pub signing_rules : Judge → SignedDataElements → IndirectData → SignerElements

@@ -1,60 +1,10 @@
 //! The result of checking a signature.
 
-ghost use Rattle.std.specs.Prelude.{◌≡◌, ◌++◌, ◌∷◌, [], IfOk, OnOk, OnErr};
+ghost use Rattle.std.specs.Prelude.{◌≡◌, IfOk};
 ghost use Rattle.authenticode_core.specs.Inside.PolicySteps.{at_place};
 
 use std::alloc::{AllocError, Global};
-use std::marker::Model;
-
-/// Indices in a list of certificates, from 0.
-#[derive(Debug, Drop)]
-pub struct Places {
-    items: Vec<usize>,
-}
-
-impl Model for Places {
-    ghost use Rattle.std.specs.Prelude.{List, ℕ};
-
-    ghost Value = { List ℕ };
-
-    ghost view = { λ p. p.items.items };
-}
-
-impl Places {
-    /// No indices.
-    pub fn new(alloc: Global) -> Places
-        ensures { result ≡ [] }
-    {
-        Places {
-            items: Vec::new(alloc),
-        }
-    }
-
-    /// Appends an index.
-    pub fn push(&mut self, item: usize) -> Result<(), AllocError>
-        ensures ok { OnOk result (self.new ≡ self.old ++ item ∷ []) }
-        ensures err { OnErr result (self.new ≡ self.old) }
-    {
-        self.items.push(item)?;
-        Ok(())
-    }
-
-    /// The indices in order.
-    pub fn as_slice(&self) -> &[usize]
-        ensures { result.now ≡ self.now }
-    {
-        &self.items
-    }
-
-    /// A copy of the value.
-    pub fn try_clone(&self, alloc: Global) -> Result<Places, AllocError>
-        ensures { IfOk result (λ copy. copy ≡ self.now) }
-    {
-        Ok(Places {
-            items: Vec::from_slice(alloc, &self.items)?,
-        })
-    }
-}
+use x509_core::Places;
 
 /// Why the expiry of a signer's certificate is excused.
 #[derive(Clone, Copy, Debug, PartialEq, Eq)]

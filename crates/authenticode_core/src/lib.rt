@@ -25,7 +25,7 @@ mod steps;
 mod timestamp_error;
 mod value;
 
-pub use accepted::{Accepted, Excuse, Places};
+pub use accepted::{Accepted, Excuse};
 pub use ctl::CertificateTrustList;
 pub use ctl_error::CtlError;
 pub use error::{AuthenticodeError, CheckError};
@@ -38,4 +38,4 @@ pub use signer::certificates::{certificate_bag, issuer_walk_of};
 pub use steps::{check_signed_data, check_wincert};
 pub use timestamp_error::TimestampError;
 pub use value::padded_element;
-pub use x509_core::DateCheck;
+pub use x509_core::{DateCheck, Places};

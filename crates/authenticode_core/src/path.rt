@@ -18,14 +18,13 @@ ghost use Rattle.authenticode_core.specs.SigningRules.{IsBagOf};
 pub(crate) mod issuer_walk;
 pub(crate) mod others;
 
-use crate::accepted::Places;
 use crate::path::others::Others;
 use crate::signer::bag::BagCertificate;
 use crate::signer::certificates::certificate_bag;
 use cms_types::SignedView;
 use sig_core::Scheme;
 use std::alloc::{AllocError, Global};
-use x509_core::{Cert, CertError, DateCheck, Window};
+use x509_core::{Cert, CertError, DateCheck, Places, Window};
 
 /// The certificate, stored with its octets. It is known to be one, so it is only refused when out
 /// of memory.

@@ -12,7 +12,7 @@ ghost use Rattle.x509_core.specs.declared.error.CertError.TheVariants as cert_er
 ghost use Rattle.x509_types.specs.CertificateElements.{CertificateElements};
 ghost use Rattle.x509_types.specs.CertificateView.{view_elements};
 ghost use Rattle.authenticode_core.specs.Inside.Form.{AreSpelled};
-ghost use Rattle.authenticode_core.specs.Inside.PolicySteps.{IsExpiry, IsUnlinkedPath, TellsExpiry, valid_and_vouched_rules, validity_rules};
+ghost use Rattle.authenticode_core.specs.Inside.PolicySteps.{IsExpiry, IsUnlinkedPath, ReturnsExpiry, valid_and_vouched_rules, validity_rules};
 ghost use Rattle.authenticode_core.specs.Inside.SigningSteps.{HasSigner, HasSignerAt};
 ghost use Rattle.authenticode_core.specs.LinkedPath.{IsPathAsked};
 ghost use Rattle.authenticode_core.specs.Policy.{window_of};
@@ -25,7 +25,7 @@ pub(crate) mod certificates;
 pub(crate) mod naming;
 pub(crate) mod wanted;
 
-use crate::accepted::{Accepted, Excuse, Places};
+use crate::accepted::{Accepted, Excuse};
 use crate::error::AuthenticodeError;
 use crate::excuse::excuse_of;
 use crate::excuse::token::first_signer_of;
@@ -37,7 +37,7 @@ use crate::signer::naming::named_at_place;
 use cms_types::{SignedView, SignerView};
 use sig_core::Scheme;
 use std::alloc::Global;
-use x509_core::{Cert, CertCause, CertError};
+use x509_core::{Cert, CertCause, CertError, Places};
 use x509_types::CertView;
 
 /// Checks that the certificate of the first signer is vouched for under a policy. The first of
@@ -216,7 +216,7 @@ fn expect_excuse<S: Scheme>(
         (RefusesAuthenticodeBy
         (validity_rules (S.judge scheme.now) policy.entry.now (data_elements signed_data.now))) }
 {
-    if !tells_expiry(&error) {
+    if !returns_expiry(&error) {
         return Err(AuthenticodeError::from(error));
     }
     match excuse_of(alloc, signed_data, signer, policy, scheme)? {
@@ -226,8 +226,8 @@ fn expect_excuse<S: Scheme>(
 }
 
 /// Whether an error reports an expired certificate.
-fn tells_expiry(error: &CertError) -> bool
-    ensures { IsTrue result ↔ TellsExpiry error.now }
+fn returns_expiry(error: &CertError) -> bool
+    ensures { IsTrue result ↔ ReturnsExpiry error.now }
 {
     match error {
         CertError::InvalidCertificate { source, .. } => is_expiry(source),

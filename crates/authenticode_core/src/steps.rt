@@ -14,7 +14,7 @@ ghost use Rattle.authenticode_core.specs.Trusted.{IsAnswer, IsTrusted, RefusesFo
 ghost use Rattle.authenticode_core.specs.declared.accepted.Accepted.{Accepted};
 ghost use Rattle.authenticode_core.specs.declared.error.CheckError.{CheckError};
 
-use crate::accepted::{Accepted, Excuse, Places};
+use crate::accepted::{Accepted, Excuse};
 use crate::basic::expect_basic;
 use crate::error::{AuthenticodeError, CheckError};
 use crate::listing::expect_listed_signer;
@@ -25,6 +25,7 @@ use cms_types::SignedView;
 use der_core::one_first_fault;
 use sig_core::Scheme;
 use std::alloc::Global;
+use x509_core::Places;
 
 /// Checks the signature in a WIN_CERTIFICATE under a policy (Windows Authenticode Portable
 /// Executable Signature Format): that its certificate is signed data, then the steps of

@@ -24,11 +24,11 @@ abbrev unsupported : UnsupportedHashAlgorithmError → AuthenticodeSignatureBuil
 unsupported source = errors.AuthenticodeError (signatures.UnsupportedHashAlgorithmError source)
 
 one_hash : (hash : Option HashAlgorithm) (e other : AuthenticodeSignatureBuilderError) → (supported_step hash).refused e → (supported_step hash).refused other → e ≡ other
-one_hash hash e other (algorithm, is, (source, told, (bad, named))) (algorithm', is', (source', told', (bad', named'))) =
-    told ∙ ap unsupported (ap of_algorithm (named ∙ bad ∙ sym bad' ∙ sym named')) ∙ sym told'
+one_hash hash e other (algorithm, is, (source, returned, (bad, named))) (algorithm', is', (source', returned', (bad', named'))) =
+    returned ∙ ap unsupported (ap of_algorithm (named ∙ bad ∙ sym bad' ∙ sym named')) ∙ sym returned'
 
 no_hash : (hash : Option HashAlgorithm) (e : AuthenticodeSignatureBuilderError) → (supported_step hash).taken → (supported_step hash).refused e → ⊥
-no_hash hash e taken (algorithm, is, (source, told, (bad, named))) = taken (is ∙ ap Some bad)
+no_hash hash e taken (algorithm, is, (source, returned, (bad, named))) = taken (is ∙ ap Some bad)
 
 have_one_error : (b : AuthenticodeSignatureBuilder) → HaveOneError (part_steps b)
 have_one_error b = (
@@ -48,8 +48,8 @@ have_one_error b = (
   ),
 )
 
-pub told_once : (b : AuthenticodeSignatureBuilder) (e other : AuthenticodeSignatureBuilderError) → IsFirstUntaken (part_steps b) e → IsFirstUntaken (part_steps b) other → e ≡ other
-told_once b e other first second = one_before (part_steps b) [] e other (have_one_error b) first (untaken_before (part_steps b) [] other second)
+pub returned_once : (b : AuthenticodeSignatureBuilder) (e other : AuthenticodeSignatureBuilderError) → IsFirstUntaken (part_steps b) e → IsFirstUntaken (part_steps b) other → e ≡ other
+returned_once b e other first second = one_before (part_steps b) [] e other (have_one_error b) first (untaken_before (part_steps b) [] other second)
 
-pub not_told : (b : AuthenticodeSignatureBuilder) (e : AuthenticodeSignatureBuilderError) → AreTaken (part_steps b) → IsFirstUntaken (part_steps b) e → ⊥
-not_told b e taken first = left_behind (part_steps b) [] e (have_one_error b) taken (untaken_before (part_steps b) [] e first)
+pub not_returned : (b : AuthenticodeSignatureBuilder) (e : AuthenticodeSignatureBuilderError) → AreTaken (part_steps b) → IsFirstUntaken (part_steps b) e → ⊥
+not_returned b e taken first = left_behind (part_steps b) [] e (have_one_error b) taken (untaken_before (part_steps b) [] e first)

@@ -141,7 +141,7 @@ signed_program judge signs pair bag first p key made content attributes signatur
 -- ---- elements that aren't written
 
 pub unwritten_as : (x y : DerElement) (source : DerError) (e : AuthenticodeError) → x ≡ y → e ≡ of_der source → RefusesInner (x ∷ []) source → RefusesBySteps errors.Memory (writing_step (y ∷ []) ∷ []) e
-unwritten_as x y source e same told refused = inl (inl (source, told, subst (λ (d : DerElement). RefusesInner (d ∷ []) source) same refused))
+unwritten_as x y source e same returned refused = inl (inl (source, returned, subst (λ (d : DerElement). RefusesInner (d ∷ []) source) same refused))
 
 pub no_attributes_of : (signs : Signs) (p : Program) (key : PrivateKey) (e : AuthenticodeError) (digest : List ℕ) → digest ≡ content_digest p.hash p.file_hash → IsDer (data_element p.hash p.file_hash)
     → RefusesBySteps errors.Memory (writing_step (p.opus ∷ attributes_element (program_attributes p.opus digest) ∷ []) ∷ []) e → RefusesBySteps errors.Memory (program_steps signs p key) e
@@ -156,8 +156,8 @@ sealed_as judge signs pair algorithm key octets message signature same is = subs
 
 pub unsealed_as : (signs : Signs) (algorithm : SignatureAlgorithm) (key : PrivateKey) (octets message : List ℕ) (source : SignatureError) (e : AuthenticodeError) → octets ≡ message → e ≡ of_signatures source
     → RefusesSignatureBy (sign_rules signs algorithm key octets) source → RefusesBySteps errors.Memory (sealing_step signs algorithm key message ∷ []) e
-unsealed_as signs algorithm key octets message source e same told refused =
-    inl (inl (source, told, subst (λ (m : List ℕ). RefusesSignatureBy (sign_rules signs algorithm key m) source) same refused))
+unsealed_as signs algorithm key octets message source e same returned refused =
+    inl (inl (source, returned, subst (λ (m : List ℕ). RefusesSignatureBy (sign_rules signs algorithm key m) source) same refused))
 
 -- ---- a signature over the stored attributes
 

@@ -51,9 +51,9 @@ unstamped gives modifies risen hash before (errors.Asn1DerError e) (inl refused)
 unstamped gives modifies risen hash before errors.TimestampTokenEmpty (inr memory) = absurd (cc memory)
 unstamped gives modifies risen hash before errors.TimestampTokenEmpty (inl refused) = (λ same. cc, inr refused)
 
-pub refused_stamp : (gives : Giving) (modifies : Modification) (risen : Type 0) (hash : HashAlgorithm) (before : SignedData) (e : TimestampError) (told : AuthenticodeError) → told ≡ of_timestamp e
-    → OrMemory errors.Memory (IsRefusedStamp gives modifies hash before) e → RefusesStamp gives modifies risen hash before told
-refused_stamp gives modifies risen hash before e told is cause =
+pub refused_stamp : (gives : Giving) (modifies : Modification) (risen : Type 0) (hash : HashAlgorithm) (before : SignedData) (e : TimestampError) (returned : AuthenticodeError) → returned ≡ of_timestamp e
+    → OrMemory errors.Memory (IsRefusedStamp gives modifies hash before) e → RefusesStamp gives modifies risen hash before returned
+refused_stamp gives modifies risen hash before e returned is cause =
     subst (RefusesStamp gives modifies risen hash before) (sym is) (unstamped gives modifies risen hash before e cause)
 
 -- ---- the counter-signature
@@ -71,9 +71,9 @@ unwritten_first signers others first der.TooDeep e refused = inl (der.TooDeep, �
 unwritten_first signers others first der.TooLong e refused = inl (der.TooLong, λ same. cc, refl, record { signer = first; others = others; first = e; refused = refused })
 unwritten_first signers others first der.Memory e refused = inr refl
 
-pub not_countersigned : (signers others : List SignerInfo) (first : SignerInfo) (source : DerError) (told : TimestampError) → signers ≡ first ∷ others → RefusesInner (map signer_info (take 1 signers)) source
-    → told ≡ stamp_refusal (unwritten structures.Pkcs7 source) → OrMemory errors.Memory (RefusesCountersigner signers) told
-not_countersigned signers others first source told e refused is =
+pub not_countersigned : (signers others : List SignerInfo) (first : SignerInfo) (source : DerError) (returned : TimestampError) → signers ≡ first ∷ others → RefusesInner (map signer_info (take 1 signers)) source
+    → returned ≡ stamp_refusal (unwritten structures.Pkcs7 source) → OrMemory errors.Memory (RefusesCountersigner signers) returned
+not_countersigned signers others first source returned e refused is =
     let alone : RefusesInner (signer_info first ∷ []) source = subst (λ (ss : List SignerInfo). RefusesInner (map signer_info (take 1 ss)) source) e refused in
     subst (OrMemory errors.Memory (RefusesCountersigner signers)) (sym is) (unwritten_first signers others first source e (refused_alone (signer_info first) source alone))
 

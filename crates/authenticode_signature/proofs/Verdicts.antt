@@ -11,11 +11,11 @@ use Rattle.der_core.specs.Refusals.{RefusesInner}
 use Rattle.der_core.specs.Rules.{IsMet, IsFirstBroken, AreOneUnlessMemory}
 use Rattle.der_core.specs.declared.error.DerError.{DerError}
 use Rattle.der_core.specs.declared.error.DerError.TheVariants as der
-use Rattle.der_core.proofs.RuleLists.{IsToldOnce, one_broken}
+use Rattle.der_core.proofs.RuleLists.{IsReturnedOnce, one_broken}
 use Rattle.key_core.proofs.Unwritten.{alone, one_source, written as no_cause}
 use Rattle.key_core.specs.Verifying.{Judge}
 use Rattle.authenticode_core.proofs.FormFields.{fields_of_view, same_fields_of}
-use Rattle.authenticode_core.proofs.PolicyOrder.{one_trusted, policy_told, trusted_unbroken}
+use Rattle.authenticode_core.proofs.PolicyOrder.{one_trusted, policy_returned, trusted_unbroken}
 use Rattle.authenticode_core.specs.ContentRefusal.{of_der}
 use Rattle.authenticode_core.specs.SigningRules.{RefusesAuthenticodeBy}
 use Rattle.authenticode_core.specs.Trusted.{IsTrusted, asked, policy_rules, shape_rules}
@@ -52,19 +52,19 @@ module _ (octets : List ℕ) (element : DerElement) (view : SignedView) (signed 
 
 -- ---- results for the value
 
-deep_is_told : der.TooDeep ≢ der.Memory
-deep_is_told e = absurd cc
+deep_is_returned : der.TooDeep ≢ der.Memory
+deep_is_returned e = absurd cc
 
-long_is_told : der.TooLong ≢ der.Memory
-long_is_told e = absurd cc
+long_is_returned : der.TooLong ≢ der.Memory
+long_is_returned e = absurd cc
 
 module _ (judge : Judge) (policy : Policy) (element : DerElement) (f : SignedDataElements) where
   -- a value without an encoding is reported so
   pub unencodable : (e : DerError) → RefusesInner (element ∷ []) e → RefusesAuthenticodeBy (kept_rules judge policy element f) (of_der e)
   unencodable (der.Malformed m) refused = absurd refused
   unencodable der.Shape refused = absurd refused
-  unencodable der.TooDeep refused = inl (inl (der.TooDeep, alone element der.TooDeep deep_is_told refused, refl))
-  unencodable der.TooLong refused = inl (inl (der.TooLong, alone element der.TooLong long_is_told refused, refl))
+  unencodable der.TooDeep refused = inl (inl (der.TooDeep, alone element der.TooDeep deep_is_returned refused, refl))
+  unencodable der.TooLong refused = inl (inl (der.TooLong, alone element der.TooLong long_is_returned refused, refl))
   unencodable der.Memory refused = inr refl
 
   encodable : IsDer element → IsMet (HasNoEncoding element)
@@ -78,11 +78,11 @@ module _ (judge : Judge) (policy : Policy) (element : DerElement) (f : SignedDat
 
   -- ---- there is one
 
-  encoding_told : IsToldOnce (HasNoEncoding element)
-  encoding_told a b p q = p.2 ∙ ap errors.Asn1DerError (one_source element p.0 q.0 p.1 q.1) ∙ sym q.2
+  encoding_returned : IsReturnedOnce (HasNoEncoding element)
+  encoding_returned a b p q = p.2 ∙ ap errors.Asn1DerError (one_source element p.0 q.0 p.1 q.1) ∙ sym q.2
 
   one_refusal : (a b : AuthenticodeError) → IsFirstBroken (kept_rules judge policy element f) a → IsFirstBroken (kept_rules judge policy element f) b → a ≡ b
-  one_refusal a b p q = one_broken (kept_rules judge policy element f) (encoding_told, policy_told judge policy f) a b p q
+  one_refusal a b p q = one_broken (kept_rules judge policy element f) (encoding_returned, policy_returned judge policy f) a b p q
 
   not_refused : (a : Accepted) (e : AuthenticodeError) → IsDer element → IsTrusted judge policy f a → IsFirstBroken (kept_rules judge policy element f) e → ⊥
   not_refused a e is trusted (inl none) = encodable is e none

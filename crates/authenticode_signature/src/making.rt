@@ -131,7 +131,7 @@ fn algorithm_of(hash: ShaVariant) -> Result<HashAlgorithm, AuthenticodeError>
     ensures answer { MatchResult result
         (λ algorithm. (algorithm ≡ hash_of hash) × (hash_of hash ≢ SHA2_224))
         (IsFirstUntaken (hash_step (hash_of hash) ∷ [])) }
-    ensures told { IfErr result
+    ensures returned { IfErr result
         (λ e. e ≡ errors.UnsupportedHashAlgorithmError (record { algorithm = SHA2_224 })) }
 {
     match HashAlgorithm::try_from(hash) {

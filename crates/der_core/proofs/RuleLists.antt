@@ -9,14 +9,14 @@ AreMet [] = ⊤
 AreMet (rule ∷ rules) = IsMet rule × AreMet rules
 
 -- at most one error reports that a rule is broken
-abbrev pub IsToldOnce : {E : Type 0} → (E → Type 0) → Type 0
-IsToldOnce {E} rule = (a b : E) → rule a → rule b → a ≡ b
+abbrev pub IsReturnedOnce : {E : Type 0} → (E → Type 0) → Type 0
+IsReturnedOnce {E} rule = (a b : E) → rule a → rule b → a ≡ b
 
-abbrev pub AreToldOnce : {E : Type 0} → List (E → Type 0) → Type 0
-AreToldOnce [] = ⊤
-AreToldOnce (rule ∷ rules) = IsToldOnce rule × AreToldOnce rules
+abbrev pub AreReturnedOnce : {E : Type 0} → List (E → Type 0) → Type 0
+AreReturnedOnce [] = ⊤
+AreReturnedOnce (rule ∷ rules) = IsReturnedOnce rule × AreReturnedOnce rules
 
-pub one_broken : {E : Type 0} (rules : List (E → Type 0)) → AreToldOnce rules → (a b : E) → IsFirstBroken rules a → IsFirstBroken rules b → a ≡ b
+pub one_broken : {E : Type 0} (rules : List (E → Type 0)) → AreReturnedOnce rules → (a b : E) → IsFirstBroken rules a → IsFirstBroken rules b → a ≡ b
 one_broken [] once a b p q = absurd p
 one_broken (rule ∷ rules) once a b (inl p) (inl q) = once.0 a b p q
 one_broken (rule ∷ rules) once a b (inl p) (inr q) = absurd (q.0 a p)
@@ -53,30 +53,30 @@ left_broken (rule ∷ rules) others e met (inl p) = absurd (met.0 e p)
 left_broken (rule ∷ rules) others e met (inr p) = left_broken rules others e met.1 p.1
 
 -- an error that none of them reports
-abbrev pub NoneTells : {E : Type 0} → List (E → Type 0) → E → Type 0
-NoneTells [] e = ⊤
-NoneTells (rule ∷ rules) e = (rule e → ⊥) × NoneTells rules e
+abbrev pub NoneReturns : {E : Type 0} → List (E → Type 0) → E → Type 0
+NoneReturns [] e = ⊤
+NoneReturns (rule ∷ rules) e = (rule e → ⊥) × NoneReturns rules e
 
-pub none_tells : {E : Type 0} (rules : List (E → Type 0)) (e : E) → NoneTells rules e → IsFirstBroken rules e → ⊥
-none_tells [] e none p = p
-none_tells (rule ∷ rules) e none (inl p) = none.0 p
-none_tells (rule ∷ rules) e none (inr p) = none_tells rules e none.1 p.1
+pub none_returns : {E : Type 0} (rules : List (E → Type 0)) (e : E) → NoneReturns rules e → IsFirstBroken rules e → ⊥
+none_returns [] e none p = p
+none_returns (rule ∷ rules) e none (inl p) = none.0 p
+none_returns (rule ∷ rules) e none (inr p) = none_returns rules e none.1 p.1
 
-pub one_of_two : {E : Type 0} (rule : E → Type 0) (rules : List (E → Type 0)) → IsToldOnce rule → ((a b : E) → IsFirstBroken rules a → IsFirstBroken rules b → a ≡ b)
+pub one_of_two : {E : Type 0} (rule : E → Type 0) (rules : List (E → Type 0)) → IsReturnedOnce rule → ((a b : E) → IsFirstBroken rules a → IsFirstBroken rules b → a ≡ b)
     → (a b : E) → IsFirstBroken (rule ∷ rules) a → IsFirstBroken (rule ∷ rules) b → a ≡ b
 one_of_two rule rules once others a b (inl p) (inl q) = once a b p q
 one_of_two rule rules once others a b (inl p) (inr q) = absurd (q.0 a p)
 one_of_two rule rules once others a b (inr p) (inl q) = absurd (p.0 b q)
 one_of_two rule rules once others a b (inr p) (inr q) = others a b p.1 q.1
 
-pub told_together : {E : Type 0} (rules others : List (E → Type 0)) → AreToldOnce rules → AreToldOnce others → AreToldOnce (rules ++ others)
-told_together [] others p q = q
-told_together (rule ∷ rules) others p q = (p.0, told_together rules others p.1 q)
+pub returned_together : {E : Type 0} (rules others : List (E → Type 0)) → AreReturnedOnce rules → AreReturnedOnce others → AreReturnedOnce (rules ++ others)
+returned_together [] others p q = q
+returned_together (rule ∷ rules) others p q = (p.0, returned_together rules others p.1 q)
 
 pub met_together : {E : Type 0} (rules others : List (E → Type 0)) → AreMet rules → AreMet others → AreMet (rules ++ others)
 met_together [] others p q = q
 met_together (rule ∷ rules) others p q = (p.0, met_together rules others p.1 q)
 
-pub none_together : {E : Type 0} (rules others : List (E → Type 0)) (e : E) → NoneTells rules e → NoneTells others e → NoneTells (rules ++ others) e
+pub none_together : {E : Type 0} (rules others : List (E → Type 0)) (e : E) → NoneReturns rules e → NoneReturns others e → NoneReturns (rules ++ others) e
 none_together [] others e p q = q
 none_together (rule ∷ rules) others e p q = (p.0, none_together rules others e p.1 q)

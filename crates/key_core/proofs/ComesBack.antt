@@ -39,13 +39,13 @@ use Rattle.key_core.proofs.KeptKeys.{one_curve, one_algorithm}
 -- octets that encode a value are read, or memory runs out
 pub unread_for_memory : {X : Type 0} (spells : DerElement → X → Type 0) (octets : List ℕ) (element : DerElement) (value : X) → IsDer element → octets ≡ encoding element → spells element value
     → (structure : Element) (e : KeyError) → IsUnreadKey structure (RefusesOctets spells octets) e → e ≡ errors.Memory
-unread_for_memory spells octets element value bounds is spelled structure e (der.Malformed m, told, refused) = absurd (no_fault_where_whole octets element m.at m.fault bounds is refused)
-unread_for_memory spells octets element value bounds is spelled structure e (der.Shape, told, refused) =
+unread_for_memory spells octets element value bounds is spelled structure e (der.Malformed m, returned, refused) = absurd (no_fault_where_whole octets element m.at m.fault bounds is refused)
+unread_for_memory spells octets element value bounds is spelled structure e (der.Shape, returned, refused) =
     let same = formed_encoding_once element refused.element bounds.formed refused.der.formed (sym is ∙ refused.encoded) in
     absurd (refused.none value (subst (λ (x : DerElement). spells x value) same spelled))
-unread_for_memory spells octets element value bounds is spelled structure e (der.TooDeep, told, refused) = absurd refused
-unread_for_memory spells octets element value bounds is spelled structure e (der.TooLong, told, refused) = absurd refused
-unread_for_memory spells octets element value bounds is spelled structure e (der.Memory, told, refused) = told
+unread_for_memory spells octets element value bounds is spelled structure e (der.TooDeep, returned, refused) = absurd refused
+unread_for_memory spells octets element value bounds is spelled structure e (der.TooLong, returned, refused) = absurd refused
+unread_for_memory spells octets element value bounds is spelled structure e (der.Memory, returned, refused) = returned
 
 -- ---- a stored key isn't refused
 

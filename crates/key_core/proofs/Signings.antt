@@ -8,7 +8,7 @@ use Rattle.der_core.specs.Refusals.{RefusesInner}
 use Rattle.der_core.specs.Rules.{IsMet, IsFirstBroken}
 use Rattle.der_core.specs.declared.error.DerError.{DerError}
 use Rattle.der_core.specs.declared.error.DerError.TheVariants as der
-use Rattle.der_core.proofs.RuleLists.{AreMet, AreToldOnce, broken_behind, left_broken, told_together}
+use Rattle.der_core.proofs.RuleLists.{AreMet, AreReturnedOnce, broken_behind, left_broken, returned_together}
 use Rattle.asn1_types.specs.declared.bit_string.BitString.{BitString}
 use Rattle.key_types.specs.declared.key_info.SubjectPublicKeyInfo.{SubjectPublicKeyInfo}
 use Rattle.key_types.specs.declared.key_kind.KeyKind.TheVariants as kinds
@@ -181,14 +181,14 @@ unwritable_once key a b p q =
     ∙ ap (λ (source : DerError). errors.Key (key_errors.Asn1Serialization elements.RsaPrivateKey source)) (one_source (rsa_private_key p.rsa) p.source q.source p.cause other)
     ∙ sym q.error
 
-pub secret_one : (algorithm : SignatureAlgorithm) (key : PrivateKey) → AreToldOnce (secret_rules algorithm key)
+pub secret_one : (algorithm : SignatureAlgorithm) (key : PrivateKey) → AreReturnedOnce (secret_rules algorithm key)
 secret_one (RsaPkcs1v15 hash) key = (λ a b p q. p.1 ∙ sym q.1, tt)
 secret_one (Ecdsa hash) key = (λ a b p q. p.1 ∙ sym q.1, (λ a b p q. p.1 ∙ sym q.1, (unpaired_once key hash, (λ a b p q. p.5 ∙ sym q.5, tt))))
 secret_one Ed25519 key = (λ a b p q. p.1 ∙ sym q.1, (λ a b p q. p.1 ∙ sym q.1, (λ a b p q. p.1 ∙ sym q.1, (λ a b p q. p.1 ∙ sym q.1, (λ a b p q. p.5 ∙ sym q.5, tt)))))
 
-pub sign_one : (signs : Signs) (algorithm : SignatureAlgorithm) (key : PrivateKey) (msg : List ℕ) → AreToldOnce (sign_rules signs algorithm key msg)
+pub sign_one : (signs : Signs) (algorithm : SignatureAlgorithm) (key : PrivateKey) (msg : List ℕ) → AreReturnedOnce (sign_rules signs algorithm key msg)
 sign_one signs algorithm key msg =
-    told_together (secret_rules algorithm key) (UnwritableSecret key ∷ Unsigned signs algorithm key msg ∷ [])
+    returned_together (secret_rules algorithm key) (UnwritableSecret key ∷ Unsigned signs algorithm key msg ∷ [])
     (secret_one algorithm key) (unwritable_once key, (λ a b p q. p.1 ∙ sym q.1, tt))
 
 -- ---- the whole

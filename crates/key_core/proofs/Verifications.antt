@@ -7,7 +7,7 @@ use Rattle.der_core.specs.Refusals.{RefusesInner}
 use Rattle.der_core.specs.Rules.{IsMet, IsFirstBroken}
 use Rattle.der_core.specs.declared.error.DerError.{DerError}
 use Rattle.der_core.specs.declared.error.DerError.TheVariants as der
-use Rattle.der_core.proofs.RuleLists.{AreMet, AreToldOnce, broken_behind, early_in, left_broken, told_together}
+use Rattle.der_core.proofs.RuleLists.{AreMet, AreReturnedOnce, broken_behind, early_in, left_broken, returned_together}
 use Rattle.asn1_types.specs.declared.bit_string.BitString.{BitString}
 use Rattle.key_types.specs.RsaPublicKey.{rsa_public_key}
 use Rattle.key_types.specs.SubjectKey.{kind_of_key}
@@ -152,14 +152,14 @@ unwritable_once info a b p q =
     ∙ ap (λ (source : DerError). errors.Key (key_errors.Asn1Serialization elements.RsaPublicKey source)) (one_source (rsa_public_key p.key) p.source q.source p.cause other)
     ∙ sym q.error
 
-pub key_one : (algorithm : SignatureAlgorithm) (info : SubjectPublicKeyInfo) → AreToldOnce (key_rules algorithm info)
+pub key_one : (algorithm : SignatureAlgorithm) (info : SubjectPublicKeyInfo) → AreReturnedOnce (key_rules algorithm info)
 key_one (RsaPkcs1v15 hash) info = (λ a b p q. p.1 ∙ sym q.1, tt)
 key_one (Ecdsa hash) info = (λ a b p q. p.1 ∙ sym q.1, (λ a b p q. p.1 ∙ sym q.1, (λ a b p q. p.1 ∙ sym q.1, (unpaired_once info hash, tt))))
 key_one Ed25519 info = (λ a b p q. p.1 ∙ sym q.1, (λ a b p q. p.1 ∙ sym q.1, (λ a b p q. p.1 ∙ sym q.1, (λ a b p q. p.3 ∙ sym q.3, tt))))
 
-pub verify_one : (judge : Judge) (algorithm : SignatureAlgorithm) (info : SubjectPublicKeyInfo) (msg sig : List ℕ) → AreToldOnce (verify_rules judge algorithm info msg sig)
+pub verify_one : (judge : Judge) (algorithm : SignatureAlgorithm) (info : SubjectPublicKeyInfo) (msg sig : List ℕ) → AreReturnedOnce (verify_rules judge algorithm info msg sig)
 verify_one judge algorithm info msg sig =
-    told_together (key_rules algorithm info) (Unwritable info ∷ Malformed judge algorithm info msg sig ∷ Rejected judge algorithm info msg sig ∷ [])
+    returned_together (key_rules algorithm info) (Unwritable info ∷ Malformed judge algorithm info msg sig ∷ Rejected judge algorithm info msg sig ∷ [])
     (key_one algorithm info) (unwritable_once info, (λ a b p q. p.1 ∙ sym q.1, (λ a b p q. p.1 ∙ sym q.1, tt)))
 
 -- ---- the whole

@@ -61,7 +61,7 @@ abbrev pub IsUnnamed : AlgorithmIdentifier → SignatureError → Type 0
 IsUnnamed id e =
     ((algorithm : SignatureAlgorithm) → NamesSignature id algorithm → ⊥)
     × OrMemory errors.Memory
-    (λ told. told ≡ errors.UnsupportedAlgorithm (unsupported.Oid (oid_of id))) e
+    (λ returned. returned ≡ errors.UnsupportedAlgorithm (unsupported.Oid (oid_of id))) e
 
 -- why an algorithm isn't written: it has no OID
 abbrev pub IsUnwritable : SignatureAlgorithm → SignatureError → Type 0

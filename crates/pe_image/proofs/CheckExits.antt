@@ -18,7 +18,7 @@ use Rattle.pe_image.specs.PeAnswer.{IsPeAnswer, policy_for}
 use Rattle.pe_image.specs.declared.error.PeCheckError.{PeCheckError}
 use Rattle.pe_image.specs.declared.error.PeCheckError.TheVariants.{Pe, Check, Memory}
 use Rattle.pe_image.proofs.SignedTables.{unread}
-use Rattle.pe_image.proofs.TableAnswers.{IsBrokenOnce, IsUnbroken, only_table, table_answer, told, told_value}
+use Rattle.pe_image.proofs.TableAnswers.{IsBrokenOnce, IsUnbroken, only_table, table_answer, returned, returned_value}
 
 -- a file that is no image
 pub broken_same : IsBrokenOnce → (octets : List ℕ) (e f : PeError) → IsFirstBroken (image_rules octets) e → IsFirstBroken (image_rules octets) f
@@ -43,7 +43,7 @@ module _ (judge : Judge) (policy : Policy) (octets file table : List ℕ) (file_
   table_same = table_is ∙ ap (λ (o : List ℕ). table_of o) file_is
 
   -- the result is that for the table, as it is returned
-  module _ (r : Result Accepted PeCheckError) (w : Result Accepted CheckError) (is : r ≡ told w) where
+  module _ (r : Result Accepted PeCheckError) (w : Result Accepted CheckError) (is : r ≡ returned w) where
     pub exit_answer : IsAnswer judge (policy_for policy hash) table w → IsPeAnswer judge policy octets r
     exit_answer answer =
         subst (λ (x : Result Accepted PeCheckError). IsPeAnswer judge policy octets x) (sym is)
@@ -57,4 +57,4 @@ module _ (judge : Judge) (policy : Policy) (octets file table : List ℕ) (file_
 
     pub exit_unread : ((e : CheckError) → RefusesForm (policy_for policy hash) table e → w ≡ Err e) → (e : CheckError) → RefusesValue (table_of octets) e → r ≡ Err (Check e)
     exit_unread refused e refuses =
-        is ∙ told_value (policy_for policy hash) table w refused e (subst (λ (t : List ℕ). RefusesValue t e) (sym table_same) refuses)
+        is ∙ returned_value (policy_for policy hash) table w refused e (subst (λ (t : List ℕ). RefusesValue t e) (sym table_same) refuses)

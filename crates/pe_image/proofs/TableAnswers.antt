@@ -14,34 +14,34 @@ use Rattle.authenticode_core.specs.declared.policy.Policy.{Policy}
 use Rattle.authenticode_core.proofs.OneAnswer.{value_refuses}
 use Rattle.pe_image.specs.ImageHash.{IsImageHash}
 use Rattle.pe_image.specs.PeAnswer.{IsPeAnswer, IsTableAnswer, policy_for}
-use Rattle.pe_image.specs.Refusals.{told_of_check}
+use Rattle.pe_image.specs.Refusals.{returned_of_check}
 use Rattle.pe_image.specs.declared.error.PeCheckError.{PeCheckError}
 use Rattle.pe_image.specs.declared.error.PeCheckError.TheVariants.{Pe, Check, Memory}
 use Rattle.pe_image.proofs.ImageHashes.{one_hash}
 
 -- the result for the table, as it is returned
-abbrev pub told : Result Accepted CheckError → Result Accepted PeCheckError
-told (Ok accepted) = Ok accepted
-told (Err e) = Err (told_of_check e)
+abbrev pub returned : Result Accepted CheckError → Result Accepted PeCheckError
+returned (Ok accepted) = Ok accepted
+returned (Err e) = Err (returned_of_check e)
 
-told_so : (e : CheckError) → e ≢ checks.Memory → told_of_check e ≡ Check e
-told_so (checks.Win e) other = refl
-told_so (checks.Authenticode e) other = refl
-told_so checks.Memory other = absurd (other refl)
+returned_so : (e : CheckError) → e ≢ checks.Memory → returned_of_check e ≡ Check e
+returned_so (checks.Win e) other = refl
+returned_so (checks.Authenticode e) other = refl
+returned_so checks.Memory other = absurd (other refl)
 
 error_of : (a b : CheckError) → ◌≡◌ {A = Result Accepted CheckError} (Err a) (Err b) → a ≡ b
 error_of a b e = cc
 
-value_told : (table : List ℕ) (e : CheckError) → RefusesValue table e → told_of_check e ≡ Check e
-value_told table (checks.Win e) refuses = refl
-value_told table (checks.Authenticode e) refuses = refl
-value_told table checks.Memory refuses = absurd refuses
+value_returned : (table : List ℕ) (e : CheckError) → RefusesValue table e → returned_of_check e ≡ Check e
+value_returned table (checks.Win e) refuses = refl
+value_returned table (checks.Authenticode e) refuses = refl
+value_returned table checks.Memory refuses = absurd refuses
 
 -- a refusal of what the certificate is, as it is returned
-pub told_value : (policy : Policy) (table : List ℕ) (result : Result Accepted CheckError) → ((e : CheckError) → RefusesForm policy table e → result ≡ Err e)
-    → (e : CheckError) → RefusesValue table e → told result ≡ Err (Check e)
-told_value policy table result refused e refuses =
-    ap told (refused e (value_refuses policy table e refuses)) ∙ ap Err (value_told table e refuses)
+pub returned_value : (policy : Policy) (table : List ℕ) (result : Result Accepted CheckError) → ((e : CheckError) → RefusesForm policy table e → result ≡ Err e)
+    → (e : CheckError) → RefusesValue table e → returned result ≡ Err (Check e)
+returned_value policy table result refused e refuses =
+    ap returned (refused e (value_refuses policy table e refuses)) ∙ ap Err (value_returned table e refuses)
 
 -- A signed image breaks no rule.
 abbrev pub IsUnbroken : Type 0
@@ -63,7 +63,7 @@ module _ (judge : Judge) (policy : Policy) (octets : List ℕ) where
     in_table : (result : Result Accepted CheckError) → IsAnswer judge (policy_for policy hash) (table_of octets) result → IsTableAnswer judge policy octets result
     in_table result answer = record { image = image; hash = hash; hash_is = hash_is; answer = answer }
 
-    pub table_answer : (result : Result Accepted CheckError) → IsAnswer judge (policy_for policy hash) (table_of octets) result → IsPeAnswer judge policy octets (told result)
+    pub table_answer : (result : Result Accepted CheckError) → IsAnswer judge (policy_for policy hash) (table_of octets) result → IsPeAnswer judge policy octets (returned result)
     table_answer (Ok accepted) answer = in_table (Ok accepted) answer
     table_answer (Err (checks.Win e)) answer = (in_table (Err (checks.Win e)) answer, (λ same. absurd cc))
     table_answer (Err (checks.Authenticode e)) answer = (in_table (Err (checks.Authenticode e)) answer, (λ same. absurd cc))
@@ -73,19 +73,19 @@ module _ (judge : Judge) (policy : Policy) (octets : List ℕ) where
     of_table result t =
         subst (λ (h : Option (List ℕ)). IsAnswer judge (policy_for policy h) (table_of octets) result) (one_hash octets t.hash hash t.hash_is hash_is) t.answer
 
-    accepted_one : (result : Result Accepted CheckError) (accepted : Accepted) → AreOneUnlessMemory checks.Memory result (Ok accepted) → AreOneUnlessMemory Memory (told result) (Ok accepted)
-    accepted_one result accepted (inl same) = inl (ap told same)
-    accepted_one result accepted (inr (inl memory)) = inr (inl (ap told memory))
+    accepted_one : (result : Result Accepted CheckError) (accepted : Accepted) → AreOneUnlessMemory checks.Memory result (Ok accepted) → AreOneUnlessMemory Memory (returned result) (Ok accepted)
+    accepted_one result accepted (inl same) = inl (ap returned same)
+    accepted_one result accepted (inr (inl memory)) = inr (inl (ap returned memory))
     accepted_one result accepted (inr (inr memory)) = absurd cc
 
-    refused_one : (result : Result Accepted CheckError) (e : CheckError) → e ≢ checks.Memory → AreOneUnlessMemory checks.Memory result (Err e) → AreOneUnlessMemory Memory (told result) (Err (Check e))
-    refused_one result e other (inl same) = inl (ap told same ∙ ap Err (told_so e other))
-    refused_one result e other (inr (inl memory)) = inr (inl (ap told memory))
+    refused_one : (result : Result Accepted CheckError) (e : CheckError) → e ≢ checks.Memory → AreOneUnlessMemory checks.Memory result (Err e) → AreOneUnlessMemory Memory (returned result) (Err (Check e))
+    refused_one result e other (inl same) = inl (ap returned same ∙ ap Err (returned_so e other))
+    refused_one result e other (inr (inl memory)) = inr (inl (ap returned memory))
     refused_one result e other (inr (inr memory)) = absurd (other (error_of e checks.Memory memory))
 
     pub only_table : IsUnbroken → (result : Result Accepted CheckError)
         → ((other : Result Accepted CheckError) → IsAnswer judge (policy_for policy hash) (table_of octets) other → AreOneUnlessMemory checks.Memory result other)
-        → (other : Result Accepted PeCheckError) → IsPeAnswer judge policy octets other → AreOneUnlessMemory Memory (told result) other
+        → (other : Result Accepted PeCheckError) → IsPeAnswer judge policy octets other → AreOneUnlessMemory Memory (returned result) other
     only_table unbroken result only (Ok accepted) k = accepted_one result accepted (only (Ok accepted) (of_table (Ok accepted) k))
     only_table unbroken result only (Err (Pe e)) k = absurd (unbroken octets e image k)
     only_table unbroken result only (Err (Check e)) k = refused_one result e k.1 (only (Err e) (of_table (Err e) k.0))

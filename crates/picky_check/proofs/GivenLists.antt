@@ -7,7 +7,7 @@ use Rattle.der_core.specs.Refusals.{RefusesOctets}
 use Rattle.der_core.specs.declared.error.DerError.{DerError}
 use Rattle.der_core.specs.declared.error.DerError.TheVariants as der
 use Rattle.cms_types.specs.declared.signed_data.pkcs7.Pkcs7Certificate.{Pkcs7Certificate}
-use Rattle.authenticode_core.specs.ContentRefusal.{of_ctl, told_of_content}
+use Rattle.authenticode_core.specs.ContentRefusal.{of_ctl, returned_of_content}
 use Rattle.authenticode_core.specs.TrustList.{IsSignedData, unread_list}
 use Rattle.authenticode_core.specs.declared.ctl.CertificateTrustList.{CertificateTrustList}
 use Rattle.authenticode_core.specs.declared.error.CheckError.{CheckError}
@@ -34,13 +34,13 @@ for_memory octets list der.Memory is refused = refl
 pub unread_for_memory : (octets : List ℕ) (list : CertificateTrustList) (e : CheckError) → IsTrustList octets list → IsUnreadList octets e → e ≡ check.Memory
 unread_for_memory octets list e is unread =
     let source = for_memory octets list unread.1.0 is unread.1.2 in
-    unread.2 ∙ ap (λ c. told_of_content (of_ctl c)) (unread.1.1 ∙ ap unread_list source)
+    unread.2 ∙ ap (λ c. returned_of_content (of_ctl c)) (unread.1.1 ∙ ap unread_list source)
 
 -- the line of every refusal but out of memory
 abbrev list_line : List ℕ
 list_line = codes "refused FailedToParseCtl" ++ 10 ∷ []
 
-line_of : (source : DerError) → (told_of_content (of_ctl (unread_list source)) ≡ check.Memory) ⊎ (refused_line (told_of_content (of_ctl (unread_list source))) ≡ list_line)
+line_of : (source : DerError) → (returned_of_content (of_ctl (unread_list source)) ≡ check.Memory) ⊎ (refused_line (returned_of_content (of_ctl (unread_list source))) ≡ list_line)
 line_of (der.Malformed m) = inr refl
 line_of der.Shape = inr refl
 line_of der.TooDeep = inr refl
@@ -49,4 +49,4 @@ line_of der.Memory = inl refl
 
 pub unread_line : (octets : List ℕ) (e : CheckError) → IsUnreadList octets e → (e ≡ check.Memory) ⊎ (refused_line e ≡ codes "refused FailedToParseCtl" ++ 10 ∷ [])
 unread_line octets e unread =
-    subst (λ (x : CheckError). (x ≡ check.Memory) ⊎ (refused_line x ≡ list_line)) (sym (unread.2 ∙ ap (λ c. told_of_content (of_ctl c)) unread.1.1)) (line_of unread.1.0)
+    subst (λ (x : CheckError). (x ≡ check.Memory) ⊎ (refused_line x ≡ list_line)) (sym (unread.2 ∙ ap (λ c. returned_of_content (of_ctl c)) unread.1.1)) (line_of unread.1.0)

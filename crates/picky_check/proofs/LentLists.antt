@@ -147,10 +147,10 @@ module _ (judge : Judge) (p : Policy) (f : SignedDataElements) where
   }
 
   unbegun : (x y : Lent) (e : AuthenticodeError) → IsUnbegun (under p x) f e → IsUnbegun (under p y) f e
-  unbegun x y e h = record { bag = h.bag; place = h.place; signer = h.signer; is = h.is; unexpired = h.unexpired; cause = h.cause; outside = h.outside; told = h.told }
+  unbegun x y e h = record { bag = h.bag; place = h.place; signer = h.signer; is = h.is; unexpired = h.unexpired; cause = h.cause; outside = h.outside; returned = h.returned }
 
   unexcused : (x y : Lent) (e : AuthenticodeError) → IsUnexcused (under p x) f e → IsUnexcused (under p y) f e
-  unexcused x y e h = record { bag = h.bag; place = h.place; signer = h.signer; is = h.is; expired = h.expired; unexcused = h.unexcused; cause = h.cause; outside = h.outside; told = h.told }
+  unexcused x y e h = record { bag = h.bag; place = h.place; signer = h.signer; is = h.is; expired = h.expired; unexcused = h.unexcused; cause = h.cause; outside = h.outside; returned = h.returned }
 
   badly_stamped : (x y : Lent) → AreSame x y → (e : AuthenticodeError) → IsBadlyStamped judge (under p x) f e → IsBadlyStamped judge (under p y) f e
   badly_stamped x y same e h = record {
@@ -181,7 +181,7 @@ module _ (judge : Judge) (p : Policy) (f : SignedDataElements) where
     is_path = h.is_path;
     cause = h.cause;
     unlinked = h.unlinked;
-    told = h.told;
+    returned = h.returned;
   }
 
   untrusted : (x y : Lent) → AreSame x y → (e : AuthenticodeError) → HasUntrustedCa (under p x) f e → HasUntrustedCa (under p y) f e

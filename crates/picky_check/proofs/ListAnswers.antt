@@ -54,7 +54,7 @@ module _ (judge : Judge) (hash : List ℕ) (date : GeneralizedTime) (options : C
         → Reports (IsSignatureAnswer judge (check_policy hash date options (Some list)) octets) result
         → Reports (IsListAnswer judge (check_policy hash date options) octets (list_octets ∷ others)) result
     read_reported list is result h = record {
-      reported = IfOk-weaker result _ _ (λ report told. (told.0, inr (list, is, told.1), told.2)) h.reported;
+      reported = IfOk-weaker result _ _ (λ report returned. (returned.0, inr (list, is, returned.1), returned.2)) h.reported;
       stopped = h.stopped;
       only = given_read list is result h;
     }

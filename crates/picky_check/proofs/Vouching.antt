@@ -141,6 +141,6 @@ module _ (one_signed_data : (octets : List ℕ) (f g : SignedDataElements) → H
       → IsVouched words shelf shelf_now held held_now
   vouched_for line h zero written =
       let read = h.2 in
-      let told = read.is_answered.is_answer in
-      vouched_for_job read.is_answered.contents told.rows read.given h.0 told.answer h.1 read.is_answered.are_files told.is_table told.is_answer (sym told.status ∙ zero)
-      (subst (λ (text : List ℕ). Appends held text held_now) told.text written)
+      let returned = read.is_answered.is_answer in
+      vouched_for_job read.is_answered.contents returned.rows read.given h.0 returned.answer h.1 read.is_answered.are_files returned.is_table returned.is_answer (sym returned.status ∙ zero)
+      (subst (λ (text : List ℕ). Appends held text held_now) returned.text written)

@@ -1,10 +1,10 @@
 -- The result for a signature file, from its octets and those of a trust list, if one is given.
 use Rattle.std.specs.Prelude.{◌≡◌, ◌⊎◌, ℕ, List, [], ◌∷◌, Option, Some, None, Result, Ok, Err}
 use Rattle.std.specs.Borrow.{Bor}
-use Rattle.der_core.specs.Refusals.{RefusesOctets, Tells}
+use Rattle.der_core.specs.Refusals.{RefusesOctets, Returns}
 use Rattle.der_core.specs.Structure.{IsWithin}
 use Rattle.key_core.specs.Verifying.{Judge}
-use Rattle.authenticode_core.specs.ContentRefusal.{of_ctl, told_of_content}
+use Rattle.authenticode_core.specs.ContentRefusal.{of_ctl, returned_of_content}
 use Rattle.authenticode_core.specs.TrustList.{IsSignedData, unread_list}
 use Rattle.authenticode_core.specs.Trusted.{IsAnswer}
 use Rattle.authenticode_core.specs.declared.accepted.Accepted.{Accepted}
@@ -34,8 +34,8 @@ IsTrustList octets list = IsWithin IsSignedData octets list.signed
 -- The octets aren't read as a list, and this is reported.
 abbrev pub IsUnreadList : (octets : List ℕ) → CheckError → Type 0
 IsUnreadList octets e =
-    (cause : CtlError) × Tells unread_list (RefusesOctets IsSignedData octets) cause
-    × (e ≡ told_of_content (of_ctl cause))
+    (cause : CtlError) × Returns unread_list (RefusesOctets IsSignedData octets) cause
+    × (e ≡ returned_of_content (of_ctl cause))
 
 -- the same of an answer
 abbrev pub IsListRefusal : (octets : List ℕ) → Answer → Type 0

@@ -27,9 +27,9 @@ some_there : (o : Option (List ℕ)) (file : List ℕ) → o ≡ Some file → I
 some_there (Some x) file h = refl
 some_there None file h = absurd cc
 
-tells : (files : Option Files) (name file : List ℕ) → file_of files name ≡ Some file → IsSome files
-tells (Some files) name file h = refl
-tells None name file h = absurd cc
+returns : (files : Option Files) (name file : List ℕ) → file_of files name ≡ Some file → IsSome files
+returns (Some files) name file h = refl
+returns None name file h = absurd cc
 
 pub same_file : (o : Option (List ℕ)) (x y : List ℕ) → o ≡ Some x → o ≡ Some y → x ≡ y
 same_file o x y a b = cc
@@ -42,7 +42,7 @@ has_file files name octets exposed whole = some_there (file_of files name) octet
 
 pub not_long : (files : Option Files) (name octets : List ℕ) → IsWholeFile files name octets → IsLongFile files name → ⊥
 not_long files name octets whole long =
-    let same = same_file (file_of files name) long.0 octets long.1 (whole.as_exposed (tells files name long.0 long.1)) in
+    let same = same_file (file_of files name) long.0 octets long.1 (whole.as_exposed (returns files name long.0 long.1)) in
     omega (arith, long.2, whole.short, ap length same)
 
 pub not_missing : (files : Option Files) (name octets : List ℕ) → IsWholeFile files name octets → IsMissingFile files name → ⊥

@@ -1,6 +1,6 @@
 //! Paths to an anchor.
 
-use authenticode_core::Places;
+use x509_core::Places;
 
 /// A path from a certificate to an anchor.
 #[derive(Debug, Drop)]

@@ -11,12 +11,11 @@ ghost use Rattle.trust_anchors.specs.Inside.Trails.{Continues, IsFirstAnchor, Is
 use crate::anchor::{Anchor, Purpose};
 use crate::path::AnchoredPath;
 use crate::steps::Steps;
-use authenticode_core::Places;
 use sig_core::Scheme;
 use std::alloc::{AllocError, Global};
 use std::cmp::Ordering;
 use std::sync::ledger::Ledger;
-use x509_core::{Cert, CertError, Window, chains_break_no_rule};
+use x509_core::{Cert, CertError, Places, Window, chains_break_no_rule};
 
 /// The most indices of a path; with its anchor it has 16 parents.
 const MOST_PLACES: u16 = 15;

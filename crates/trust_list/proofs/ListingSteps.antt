@@ -67,7 +67,7 @@ module _ (entry : CTLEntry) (now : ℤ) where
           ends = ends_with.1;
           whole = whole;
           passed = subst (λ (t : ℤ). t <ℤ now) is less;
-          told = ap (λ (t : ℤ). errors.Expired t now) is;
+          returned = ap (λ (t : ℤ). errors.Expired t now) is;
         }),
       ),
     )
@@ -108,7 +108,7 @@ module _ (entry : CTLEntry) (now : ℤ) where
         whole = whole;
         early = subst (λ (t : ℤ). now <ℤ t) is early;
         applies = said;
-        told = ap (λ (t : ℤ). errors.NotYetValid t now) is;
+        returned = ap (λ (t : ℤ). errors.NotYetValid t now) is;
       }),
     )
 

@@ -7,7 +7,7 @@ use Rattle.cms_content.specs.declared.ctl_kind.CtlKind.TheVariants as kinds
 use Rattle.cms_content.specs.declared.ctl_values.CTLEntryAttributeValues.TheVariants as values
 use Rattle.cms_content.specs.declared.held_purposes.HeldPurposes.{HeldPurposes}
 use Rattle.der_core.specs.Rules.{IsFirstBroken, IsMet}
-use Rattle.der_core.proofs.RuleLists.{AreMet, AreToldOnce, IsToldOnce, met_together, none_broken, one_broken}
+use Rattle.der_core.proofs.RuleLists.{AreMet, AreReturnedOnce, IsReturnedOnce, met_together, none_broken, one_broken}
 use Rattle.md5.specs.Md5.{md5}
 use Rattle.trust_list.specs.Attributes.{HasBegins, HasDigest, HasEnds, HasUsages, IsOfKind}
 use Rattle.trust_list.specs.FileTime.{seconds_of}
@@ -97,18 +97,18 @@ module _ (entry : CTLEntry) (now : ℤ) where
 
   -- ---- each is reported by one error
 
-  ended_once : IsToldOnce (HasEnded entry now)
+  ended_once : IsReturnedOnce (HasEnded entry now)
   ended_once = λ a b p q.
       let same = one_head p.value q.value p.others q.others (ends_once entry (p.value ∷ p.others) (q.value ∷ q.others) p.ends q.ends) in
-      p.told ∙ ap (λ (v : List ℕ). errors.Expired (seconds_of v) now) same ∙ sym q.told
+      p.returned ∙ ap (λ (v : List ℕ). errors.Expired (seconds_of v) now) same ∙ sym q.returned
 
-  begun_once : IsToldOnce (HasNotBegun entry now)
+  begun_once : IsReturnedOnce (HasNotBegun entry now)
   begun_once = λ a b p q.
       let same = one_head p.value q.value p.others q.others (begins_once entry (p.value ∷ p.others) (q.value ∷ q.others) p.begins q.begins) in
-      p.told ∙ ap (λ (v : List ℕ). errors.NotYetValid (seconds_of v) now) same ∙ sym q.told
+      p.returned ∙ ap (λ (v : List ℕ). errors.NotYetValid (seconds_of v) now) same ∙ sym q.returned
 
-  pub entry_told : AreToldOnce (entry_rules entry now)
-  entry_told = (λ a b p q. p.1 ∙ sym q.1, (λ a b p q. p.4 ∙ sym q.4, (ended_once, (λ a b p q. p.3 ∙ sym q.3, (begun_once, tt)))))
+  pub entry_returned : AreReturnedOnce (entry_rules entry now)
+  entry_returned = (λ a b p q. p.1 ∙ sym q.1, (λ a b p q. p.4 ∙ sym q.4, (ended_once, (λ a b p q. p.3 ∙ sym q.3, (begun_once, tt)))))
 
 -- ---- names
 
@@ -127,16 +127,16 @@ module _ (entries : List CTLEntry) (name : List ℕ) (now : ℤ) where
   pub listed_is_met : IsListed entries name now → AreMet (listing_rules entries name now)
   listed_is_met listed = (no_entry_met listed, (bad_entry_met listed, tt))
 
-  bad_entry_once : IsToldOnce (HasBadEntry entries name now)
+  bad_entry_once : IsReturnedOnce (HasBadEntry entries name now)
   bad_entry_once = λ a b p q.
       let there = subst (λ (entry : CTLEntry). IsFirstBroken (entry_rules entry now) a) (one_entry p.0 q.0 p.1 q.1) p.2 in
-      one_broken (entry_rules q.0 now) (entry_told q.0 now) a b there q.2
+      one_broken (entry_rules q.0 now) (entry_returned q.0 now) a b there q.2
 
-  pub listing_told : AreToldOnce (listing_rules entries name now)
-  listing_told = (λ a b p q. p.1 ∙ sym q.1, (bad_entry_once, tt))
+  pub listing_returned : AreReturnedOnce (listing_rules entries name now)
+  listing_returned = (λ a b p q. p.1 ∙ sym q.1, (bad_entry_once, tt))
 
   pub listed_unbroken : (e : ListingError) → IsListed entries name now → IsFirstBroken (listing_rules entries name now) e → ⊥
   listed_unbroken e listed broken = none_broken (listing_rules entries name now) (listed_is_met listed) e broken
 
   pub listing_once : (a b : ListingError) → IsFirstBroken (listing_rules entries name now) a → IsFirstBroken (listing_rules entries name now) b → a ≡ b
-  listing_once a b p q = one_broken (listing_rules entries name now) listing_told a b p q
+  listing_once a b p q = one_broken (listing_rules entries name now) listing_returned a b p q

@@ -86,7 +86,7 @@ pub record HasEnded (entry : CTLEntry) (now : ℤ) (e : ListingError) : Type 0 w
   pub ends : HasEnds entry (value ∷ others)
   pub whole : 8 ≤ length value
   pub passed : seconds_of value <ℤ now
-  pub told : e ≡ errors.Expired (seconds_of value) now
+  pub returned : e ≡ errors.Expired (seconds_of value) now
 
 -- there is no first value, or it is no time
 abbrev pub LacksTime : List (List ℕ) → Type 0
@@ -107,7 +107,7 @@ pub record HasNotBegun (entry : CTLEntry) (now : ℤ) (e : ListingError) : Type 
   pub whole : 8 ≤ length value
   pub early : now <ℤ seconds_of value
   pub applies : IsForOthers entry → ⊥
-  pub told : e ≡ errors.NotYetValid (seconds_of value) now
+  pub returned : e ≡ errors.NotYetValid (seconds_of value) now
 
 -- the rules for the not-after time, in their order
 abbrev pub end_rules : CTLEntry → ℤ → List (Rule ListingError)

@@ -54,7 +54,7 @@ module _ (start day end late : GeneralizedTime) (begun : IsEarlier day start →
     record { step = _; is = refl; unissued = refl },
   )
 
-  -- a leaf of a CA with path length 0 is valid: it is numbered 0
+  -- a leaf of a CA with path length 0 is valid: its CA has number 0
   pub leaf_is_valid : IsValidAt limited 2 day
   leaf_is_valid = record {
     step = step_by (Some 1) false None;
@@ -109,3 +109,71 @@ module _ (start day end late : GeneralizedTime) (begun : IsEarlier day start →
       let same = ancestors_once outliving 1 valid.ancestors (0 ∷ []) valid.are line in
       let allowed = valid.allowed 0 0 (step_by None true None) (at_0 valid.ancestors same) refl in
       allowed.valid.lasts over
+
+  -- ---- a CA that may issue one further CA, that CA, and a leaf of it
+
+  abbrev of_length_one : History
+  of_length_one = step_by None true None ∷ step_by (Some 0) true (Some 1) ∷ step_by (Some 1) true None ∷ step_by (Some 2) false None ∷ []
+
+  line_of_3 : AreAncestors of_length_one 3 (2 ∷ 1 ∷ 0 ∷ [])
+  line_of_3 = (
+    (record { step = _; is = refl; issued = refl }, (record { step = _; is = refl; issued = refl }, (record { step = _; is = refl; issued = refl }, tt))),
+    record { step = _; is = refl; unissued = refl },
+  )
+
+  one_within_one : 1 ≤ 1
+  one_within_one = omega arith
+
+  one_at_most : (limit : ℕ) → Some 1 ≡ Some limit → 1 ≤ limit
+  one_at_most limit e = let same : 1 ≡ limit = cc in subst (λ (n : ℕ). 1 ≤ n) same one_within_one
+
+  -- one with path length 1 is allowed with number 1
+  second_allowed : (history : History) (index : ℕ) (issuer : Option ℕ) → HasStep history index (step_by issuer true (Some 1)) → Allows history 1 index
+  second_allowed history index issuer is step has =
+      subst (IsAllowed day 1) (step_once history index (step_by issuer true (Some 1)) step is has)
+      (record { authority = refl; depth = one_at_most; valid = during issuer true (Some 1) })
+
+  -- the leaf is valid: the CA with path length 1 has number 1
+  pub second_is_valid : IsValidAt of_length_one 3 day
+  second_is_valid = record {
+    step = step_by (Some 2) false None;
+    is = refl;
+    valid = during (Some 2) false None;
+    ancestors = 2 ∷ 1 ∷ 0 ∷ [];
+    are = line_of_3;
+    allowed = all_allowed of_length_one (2 ∷ 1 ∷ 0 ∷ []) (
+      first_allowed of_length_one 2 (Some 1) None refl,
+      (second_allowed of_length_one 1 (Some 0) refl, (unlimited_allowed of_length_one 2 0 None refl, tt)),
+    );
+    rooted = λ root has. subst (λ (s : IssuingStep). s.ca ≡ true) (step_once of_length_one 0 (step_by None true None) root refl has) refl;
+  }
+
+  -- ---- a certificate issued by one that isn't a CA
+
+  abbrev below_leaf : History
+  below_leaf = step_by None true None ∷ step_by (Some 0) false None ∷ step_by (Some 1) false None ∷ []
+
+  first_of_two : (ancestors : List ℕ) → ancestors ≡ 1 ∷ 0 ∷ [] → slice_get ancestors 0 ≡ Some 1
+  first_of_two ancestors e = subst (λ (zs : List ℕ). slice_get zs 0 ≡ Some 1) (sym e) refl
+
+  -- it isn't valid
+  pub below_leaf_is_not : IsValidAt below_leaf 2 day → ⊥
+  below_leaf_is_not valid =
+      let line : AreAncestors below_leaf 2 (1 ∷ 0 ∷ []) =
+      ((record { step = _; is = refl; issued = refl }, (record { step = _; is = refl; issued = refl }, tt)), record { step = _; is = refl; unissued = refl }) in
+      let same = ancestors_once below_leaf 2 valid.ancestors (1 ∷ 0 ∷ []) valid.are line in
+      let allowed = valid.allowed 0 1 (step_by (Some 0) false None) (first_of_two valid.ancestors same) refl in
+      false_is_true allowed.authority
+
+  -- ---- a certificate whose issuer's begins later
+
+  abbrev early : History
+  early = record { issuer = None; ca = true; pathlen = None; not_before = late; not_after = late } ∷ step_by (Some 0) false None ∷ []
+
+  -- it isn't valid before that begins
+  pub early_is_not : IsValidAt early 1 end → ⊥
+  early_is_not valid =
+      let line : AreAncestors early 1 (0 ∷ []) = ((record { step = _; is = refl; issued = refl }, tt), record { step = _; is = refl; unissued = refl }) in
+      let same = ancestors_once early 1 valid.ancestors (0 ∷ []) valid.are line in
+      let allowed = valid.allowed 0 0 (record { issuer = None; ca = true; pathlen = None; not_before = late; not_after = late }) (at_0 valid.ancestors same) refl in
+      allowed.valid.begun over

@@ -53,7 +53,7 @@ module _ (judge : Judge) (w : Window) (count : ℕ) (parent child : KeptCertific
   outside e ca deep (inr memory) = inr memory
 
   no_parent : (e : CertError) → HasCa parent.elements true → IsDeepEnough count parent.elements → IsWithinWindow w parent.elements → RefusesParent parent child e → e ≢ errors.Memory → RefusesCertBy (link_rules judge w count parent child) e
-  no_parent e ca deep valid refused told = inl (inr (authority_is_met parent ca, inr (depth_is_met count parent deep, inr (window_is_met w parent valid, inl (refused, told)))))
+  no_parent e ca deep valid refused returned = inl (inr (authority_is_met parent ca, inr (depth_is_met count parent deep, inr (window_is_met w parent valid, inl (refused, returned)))))
 
   pub parent_refused : (e : CertError) → HasCa parent.elements true → IsDeepEnough count parent.elements → IsWithinWindow w parent.elements → RefusesParent parent child e → RefusesCertBy (link_rules judge w count parent child) e
   parent_refused (errors.InvalidCertificate id source) ca deep valid refused = no_parent (errors.InvalidCertificate id source) ca deep valid refused (λ e. absurd cc)

@@ -48,6 +48,6 @@ pub parent_is_met : (parent child : KeptCertificate) → AgreeByKeyAndName paren
 parent_is_met parent child agreed = λ e broken. by e broken.0 broken.1
   where
     by : (e : CertError) → RefusesParent parent child e → e ≢ errors.Memory → ⊥
-    by (errors.InvalidCertificate id source) refused told = not_linked parent child id source agreed refused
-    by errors.Memory refused told = told refl
-    by e refused told = absurd refused
+    by (errors.InvalidCertificate id source) refused returned = not_linked parent child id source agreed refused
+    by errors.Memory refused returned = returned refl
+    by e refused returned = absurd refused

@@ -1,7 +1,7 @@
 -- At most one error reports the first broken rule of a chain.
 use Rattle.std.proofs.Common.{◌≡◌, ◌⊎◌, List, [], ◌∷◌, ◌++◌, length, Option, inl, inr, refl, sym, ap, subst, ◌∙◌}
 use Rattle.der_core.specs.Rules.{IsFirstBroken}
-use Rattle.der_core.proofs.RuleLists.{IsToldOnce, one_broken}
+use Rattle.der_core.proofs.RuleLists.{IsReturnedOnce, one_broken}
 use Rattle.key_core.specs.Verifying.{Judge}
 use Rattle.x509_core.specs.Chain.{IsFirstUnlinked, IsUnlinked, chain_rules, last_of}
 use Rattle.x509_core.specs.KeptCertificate.{KeptCertificate}
@@ -10,7 +10,7 @@ use Rattle.x509_core.specs.Window.{window_rules}
 use Rattle.x509_core.specs.declared.error.CertError.{CertError}
 use Rattle.x509_core.specs.declared.validator.ChainChecks.{ChainChecks}
 use Rattle.x509_core.specs.declared.window.Window.{Window}
-use Rattle.x509_core.proofs.OneLink.{window_once, told_once, link_once}
+use Rattle.x509_core.proofs.OneLink.{window_once, returned_once, link_once}
 use Rattle.x509_core.proofs.UnbrokenLinks.{link_is_met}
 use Rattle.x509_core.proofs.Verdicts.{same_list}
 
@@ -51,20 +51,20 @@ module _ (judge : Judge) (w : Window) (checked : KeptCertificate) where
   same_place parents a b p q (inr (inl (rest, e))) = absurd (before_is_linked parents a b p q rest e)
   same_place parents a b p q (inr (inr (rest, e))) = absurd (before_is_linked parents b a q p rest e)
 
-  unlinked_once : (parents : List KeptCertificate) → IsToldOnce (IsFirstUnlinked judge w checked parents)
+  unlinked_once : (parents : List KeptCertificate) → IsReturnedOnce (IsFirstUnlinked judge w checked parents)
   unlinked_once parents = λ a b p q. same_place parents a b p q (two_places p.before q.before p.parent q.parent p.after q.after (sym p.are ∙ q.are))
 
 module _ (judge : Judge) (checks : ChainChecks) (checked : KeptCertificate) (given : Option (List KeptCertificate)) where
-  link_told_once : IsToldOnce (IsUnlinked judge checks checked given)
-  link_told_once = λ a b p q.
+  link_returned_once : IsReturnedOnce (IsUnlinked judge checks checked given)
+  link_returned_once = λ a b p q.
       let same = same_list p.parents q.parents (sym p.is ∙ q.is) in
       unlinked_once judge checks.window checked q.parents a b (subst (λ (ks : List KeptCertificate). IsFirstUnlinked judge checks.window checked ks a) same p.first) q.first
 
-  pub chain_once : IsToldOnce (IsFirstBroken (chain_rules judge checks checked given))
+  pub chain_once : IsReturnedOnce (IsFirstBroken (chain_rules judge checks checked given))
   chain_once = λ a b p q. one_broken (chain_rules judge checks checked given) (
     λ a b p q. p.2 ∙ sym q.2,
     (
-      told_once checked (IsFirstBroken (window_rules checks.window checked.elements)) (window_once checks.window checked.elements),
-      (λ a b p q. p.2 ∙ sym q.2, (link_told_once, (λ a b p q. p.told ∙ sym q.told, tt))),
+      returned_once checked (IsFirstBroken (window_rules checks.window checked.elements)) (window_once checks.window checked.elements),
+      (λ a b p q. p.2 ∙ sym q.2, (link_returned_once, (λ a b p q. p.returned ∙ sym q.returned, tt))),
     ),
   ) a b p q

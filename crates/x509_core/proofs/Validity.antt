@@ -55,18 +55,18 @@ valid_or_over w f (Err e) begun over = inr (begun_is_met w f begun, inl over)
 
 -- ---- what has expired
 
-abbrev IsToldExpired : Window → CertificateElements → Type 0
-IsToldExpired w f = (not_after : GeneralizedTime) × (now : GeneralizedTime) × IsFirstBroken (window_rules w f) (causes.CertificateExpired not_after now)
+abbrev IsReturnedExpired : Window → CertificateElements → Type 0
+IsReturnedExpired w f = (not_after : GeneralizedTime) × (now : GeneralizedTime) × IsFirstBroken (window_rules w f) (causes.CertificateExpired not_after now)
 
-pub expired_is_told : (w : Window) (f : CertificateElements) → IsExpired w f → IsToldExpired w f
-expired_is_told w f expired = (expired.1.0, expired.1.1, inr (begun_is_met w f expired.0, inl (record { not_after = expired.1.0; now = expired.1.1; ended = expired.1.2; told = refl })))
+pub expired_is_returned : (w : Window) (f : CertificateElements) → IsExpired w f → IsReturnedExpired w f
+expired_is_returned w f expired = (expired.1.0, expired.1.1, inr (begun_is_met w f expired.0, inl (record { not_after = expired.1.0; now = expired.1.1; ended = expired.1.2; returned = refl })))
 
 other_cause : (a b c d : GeneralizedTime) → causes.CertificateExpired a b ≡ causes.CertificateNotYetValid c d → ⊥
 other_cause a b c d e = cc
 
-pub told_is_expired : (w : Window) (f : CertificateElements) → IsToldExpired w f → IsExpired w f
-told_is_expired w f (not_after, now, inl early) = absurd (other_cause not_after now early.not_before early.now early.told)
-told_is_expired w f (not_after, now, inr (met, inl over)) = (
+pub returned_is_expired : (w : Window) (f : CertificateElements) → IsReturnedExpired w f → IsExpired w f
+returned_is_expired w f (not_after, now, inl early) = absurd (other_cause not_after now early.not_before early.now early.returned)
+returned_is_expired w f (not_after, now, inr (met, inl over)) = (
   λ asked not_before now' begins last early. met (causes.CertificateNotYetValid not_before now') (record {
     not_before = not_before;
     now = now';
@@ -74,8 +74,8 @@ told_is_expired w f (not_after, now, inr (met, inl over)) = (
     begins = begins;
     last = last;
     early = early;
-    told = refl;
+    returned = refl;
   }),
   (over.not_after, over.now, over.ended),
 )
-told_is_expired w f (not_after, now, inr (met, inr none)) = absurd none.1
+returned_is_expired w f (not_after, now, inr (met, inr none)) = absurd none.1

@@ -112,7 +112,7 @@ module _ (judge : Judge) (checks : ChainChecks) (checked : KeptCertificate) (giv
                       parents = parents;
                       is = is;
                       unrooted = unrooted;
-                      told = refl;
+                      returned = refl;
                     }),
                   ),
                 ),
@@ -148,11 +148,11 @@ module _ (judge : Judge) (checks : ChainChecks) (checked : KeptCertificate) (giv
         is_all : given ≡ Some (map lent xs)
         is_all = let l = listed steps chain given gives in l.1 ∙ ap Some (gives_all steps lent chain xs l.0 l.2 ran)
 
-        told : {X : Type 0} (r : Result X CertError) → MatchResult r (λ _. IsAccepted judge checks checked given) (IsFirstBroken (chain_rules judge checks checked given)) → MatchResult r (λ _. IsAccepted judge checks checked given) Refuses
-        told (Ok v) accepted = accepted
-        told (Err e) broken = inl broken
+        returned : {X : Type 0} (r : Result X CertError) → MatchResult r (λ _. IsAccepted judge checks checked given) (IsFirstBroken (chain_rules judge checks checked given)) → MatchResult r (λ _. IsAccepted judge checks checked given) Refuses
+        returned (Ok v) accepted = accepted
+        returned (Err e) broken = inl broken
 
         pub verdict : {X : Type 0} (last : CertType) (r : Result X CertError) → IsOfType (last_of checked (map lent xs)).elements last
             → MatchResult r (λ _. IsTrue checks.root → last ≡ types.Root) (λ e. IsTrue checks.root × (last ≢ types.Root) × (e ≡ errors.InvalidChain chain_errors.NoRoot))
             → MatchResult r (λ _. IsAccepted judge checks checked given) Refuses
-        verdict last r is h = told r (verdict_over (map lent xs) is_all linked last r is h)
+        verdict last r is h = returned r (verdict_over (map lent xs) is_all linked last r is h)

@@ -25,17 +25,17 @@ use Rattle.x509_core.proofs.Verdicts.{date_is_met, unasked, lacking_chain, unlin
 
 -- ---- where memory may run out
 
-pub undated_is_told : (checks : ChainChecks) (e : CertError) → LacksDate checks e → e ≡ errors.Memory → ⊥
-undated_is_told checks e lacks none = let other = lacks.2 in cc
+pub undated_is_returned : (checks : ChainChecks) (e : CertError) → LacksDate checks e → e ≡ errors.Memory → ⊥
+undated_is_returned checks e lacks none = let other = lacks.2 in cc
 
 pub where_asked : {X P : Type 0} (r : Result X CertError) → P → IfErr r (λ e. e ≡ errors.Memory → P)
 where_asked (Ok v) p = tt
 where_asked (Err e) p = λ none. p
 
 -- the refusal for a missing root isn't out of memory
-pub unrooted_is_told : {X : Type 0} (P Q R N : Type 0) (r : Result X CertError) → MatchResult r (λ _. P) (λ e. Q × R × (e ≡ errors.InvalidChain chain_errors.NoRoot)) → IfErr r (λ e. e ≡ errors.Memory → N)
-unrooted_is_told P Q R N (Ok v) h = tt
-unrooted_is_told P Q R N (Err e) h = λ none. let other = h.2 in absurd cc
+pub unrooted_is_returned : {X : Type 0} (P Q R N : Type 0) (r : Result X CertError) → MatchResult r (λ _. P) (λ e. Q × R × (e ≡ errors.InvalidChain chain_errors.NoRoot)) → IfErr r (λ e. e ≡ errors.Memory → N)
+unrooted_is_returned P Q R N (Ok v) h = tt
+unrooted_is_returned P Q R N (Err e) h = λ none. let other = h.2 in absurd cc
 
 -- ---- no link reports a missing root
 
@@ -43,16 +43,16 @@ abbrev IsOfNoRoot : CertError → Type 0
 IsOfNoRoot e = e ≡ errors.InvalidChain chain_errors.NoRoot
 
 no_link_lacks_root : (judge : Judge) (w : Window) (count : _) (parent child : KeptCertificate) (e : CertError) → IsOfNoRoot e → IsFirstBroken (link_rules judge w count parent child) e → ⊥
-no_link_lacks_root judge w count parent child e no_root (inl broken) = let other = broken.told in cc
-no_link_lacks_root judge w count parent child e no_root (inr (a, inl broken)) = let other = broken.told in cc
-no_link_lacks_root judge w count parent child e no_root (inr (a, inr (b, inl broken))) = let other = broken.told in cc
+no_link_lacks_root judge w count parent child e no_root (inl broken) = let other = broken.returned in cc
+no_link_lacks_root judge w count parent child e no_root (inr (a, inl broken)) = let other = broken.returned in cc
+no_link_lacks_root judge w count parent child e no_root (inr (a, inr (b, inl broken))) = let other = broken.returned in cc
 no_link_lacks_root judge w count parent child e no_root (inr (a, inr (b, inr (c, inl broken)))) = of_parent e no_root broken.0
   where
     of_parent : (e : CertError) → IsOfNoRoot e → RefusesParent parent child e → ⊥
     of_parent (errors.InvalidChain source) no_root refused = refused
     of_parent _ no_root refused = cc
-no_link_lacks_root judge w count parent child e no_root (inr (a, inr (b, inr (c, inr (d, inl broken))))) = let other = broken.told in cc
-no_link_lacks_root judge w count parent child e no_root (inr (a, inr (b, inr (c, inr (d, inr (f, inl broken)))))) = let other = broken.told in cc
+no_link_lacks_root judge w count parent child e no_root (inr (a, inr (b, inr (c, inr (d, inl broken))))) = let other = broken.returned in cc
+no_link_lacks_root judge w count parent child e no_root (inr (a, inr (b, inr (c, inr (d, inr (f, inl broken)))))) = let other = broken.returned in cc
 no_link_lacks_root judge w count parent child e no_root (inr (a, inr (b, inr (c, inr (d, inr (f, inr none)))))) = none.1
 
 module _ {S : Type 0} (judge : Judge) (steps : S → Option (Bor KeptCertificate) → S → Type 0) (checks : ChainChecks) (checked : KeptCertificate) where
@@ -79,7 +79,7 @@ module _ {S : Type 0} (judge : Judge) (steps : S → Option (Bor KeptCertificate
   invalid chain e dated (inl broken) = inl (record {
     given = (unstarted chain).0;
     came = (unstarted chain).1;
-    ended = λ no_root. let other = broken.told in absurd cc;
+    ended = λ no_root. let other = broken.returned in absurd cc;
     broken = inr (date_is_met judge checks checked (unstarted chain).0 dated, inl broken);
   })
   invalid chain e dated (inr memory) = inr memory
@@ -115,13 +115,13 @@ module _ {S : Type 0} (judge : Judge) (steps : S → Option (Bor KeptCertificate
           all_came : IsWalked steps chain (Some (map lent xs))
           all_came = record { iterator = iterator; parents = xs; is = is; ended = ran; are = refl }
 
-          told : {X : Type 0} (r : Result X CertError)
+          returned : {X : Type 0} (r : Result X CertError)
               → MatchResult r (λ _. IsAccepted judge checks checked (Some (map lent xs))) (IsFirstBroken (chain_rules judge checks checked (Some (map lent xs))))
               → MatchResult r (λ _. WasAccepted judge steps checks checked chain) (Refused chain)
-          told (Ok v) accepted = record { given = Some (map lent xs); walked = λ _. all_came; accepted = accepted }
-          told (Err e) broken = inl (record { given = Some (map lent xs); came = so_far xs ran.1.0 ran.1.1; ended = λ _. all_came; broken = broken })
+          returned (Ok v) accepted = record { given = Some (map lent xs); walked = λ _. all_came; accepted = accepted }
+          returned (Err e) broken = inl (record { given = Some (map lent xs); came = so_far xs ran.1.0 ran.1.1; ended = λ _. all_came; broken = broken })
 
           pub walk : {X : Type 0} (last : CertType) (r : Result X CertError) → IsLinkedChain judge checks.window checked (map lent xs) → IsOfType (last_of checked (map lent xs)).elements last
               → MatchResult r (λ _. IsTrue checks.root → last ≡ types.Root) (λ e. IsTrue checks.root × (last ≢ types.Root) × (e ≡ errors.InvalidChain chain_errors.NoRoot))
               → MatchResult r (λ _. WasAccepted judge steps checks checked chain) (Refused chain)
-          walk last r linked is_last h = told r (verdict_over judge checks checked (Some (map lent xs)) dated valid asked (map lent xs) refl linked last r is_last h)
+          walk last r linked is_last h = returned r (verdict_over judge checks checked (Some (map lent xs)) dated valid asked (map lent xs) refl linked last r is_last h)

@@ -97,7 +97,7 @@ pub record LacksRoot (checks : ChainChecks) (checked : KeptCertificate)
   pub parents : List KeptCertificate
   pub is : given ≡ Some parents
   pub unrooted : IsRooted checks checked parents → ⊥
-  pub told : e ≡ errors.InvalidChain chain_errors.NoRoot
+  pub returned : e ≡ errors.InvalidChain chain_errors.NoRoot
 
 -- The rules of a verification, in their order.
 abbrev pub chain_rules : Judge → ChainChecks → KeptCertificate → Option (List KeptCertificate)

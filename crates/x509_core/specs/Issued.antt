@@ -1,4 +1,4 @@
--- Certificates that were issued by a history, and keys that signed no others.
+-- Certificates that were issued by a history, and when no others are accepted under their keys.
 use Rattle.std.specs.Prelude.{◌≡◌, ◌↔◌, ◌⊎◌, ⊤, ℕ, List, [], ◌∷◌, length, Some, None}
 use Rattle.std.specs.List.{slice_get}
 use Rattle.asn1_types.specs.declared.generalized_time.GeneralizedTime.{GeneralizedTime}
@@ -32,8 +32,8 @@ AreCertsAt certificates (index ∷ indices) [] = ⊥
 AreCertsAt certificates (index ∷ indices) (cert ∷ certs) =
     HasCert certificates index cert × AreCertsAt certificates indices certs
 
--- The certificate has the CA flag, the path length and the validity of the step, a subject key
--- identifier, and no two extensions with one OID (RFC 5280 4.2).
+-- The certificate has the CA flag, present also if it is FALSE, the path length and the validity of
+-- the step, a subject key identifier, and no two extensions with one OID (RFC 5280 4.2).
 pub record IsRecordedAs (step : IssuingStep) (cert : KeptCertificate) : Type 0 where
   pub flag : HasCa cert.elements step.ca
   pub length : (number : ℕ) → HasPathLength cert.elements number ↔ (step.pathlen ≡ Some number)
@@ -76,7 +76,7 @@ pub record IsNext (judge : Judge) (certificates : List KeptCertificate) (step : 
       → (parent : KeptCertificate) × HasCert certificates issuer parent
       × IsCertifiedBy judge parent.elements cert.elements
 
--- ---- keys that signed no others
+-- ---- no others are accepted
 
 -- the step at an index is issued by the one at another, or both are one root
 abbrev pub IsSignedUnder : History → (index signer : ℕ) → Type 0
@@ -93,9 +93,9 @@ pub record IsOneOf (history : History) (certificates : List KeptCertificate) (si
   pub is : HasCert certificates index cert
   pub signs : octets ≡ signed_octets cert.elements
 
--- Of all encodings of a TBSCertificate, the scheme accepts signatures by the key of a certificate
--- on those of the certificates that were issued under it alone. Other octets, such as requests, may
--- be signed by it.
+-- Under the key of each certificate the scheme accepts, of all encodings of a TBSCertificate, those
+-- of the certificates issued by it alone, and a root's own. So no two certificates with one key have
+-- issued others. Other octets, such as requests, may be accepted.
 abbrev pub IsSealed : Judge → History → List KeptCertificate → Type 0
 IsSealed judge history certificates =
     (signer : ℕ) (parent : KeptCertificate) (info : SubjectPublicKeyInfo)

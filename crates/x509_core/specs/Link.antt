@@ -76,19 +76,19 @@ pub record IsLink (judge : Judge) (w : Window) (number : ℕ)
 -- ---- rules, by what breaks them
 
 -- the error reports this certificate, by the name of its subject, for a cause that breaks the rule
-pub record IsToldOf (kept : KeptCertificate) (rule : Rule CertCause) (e : CertError) : Type 0 where
+pub record IsReturnedOf (kept : KeptCertificate) (rule : Rule CertCause) (e : CertError) : Type 0 where
   pub cause : CertCause
   pub id : DirectoryName
   pub broken : rule cause
   pub name : IsNameOf kept id
-  pub told : e ≡ errors.InvalidCertificate id cause
+  pub returned : e ≡ errors.InvalidCertificate id cause
 
 -- the parent has no CA flag that is true
 pub record IsNoAuthority (parent : KeptCertificate) (e : CertError) : Type 0 where
   pub id : DirectoryName
   pub none : HasCa parent.elements true → ⊥
   pub name : IsNameOf parent id
-  pub told : e ≡ errors.InvalidChain (chain.IssuerIsNotCA id)
+  pub returned : e ≡ errors.InvalidChain (chain.IssuerIsNotCA id)
 
 -- more are between the parent and the end of the path than its path length allows
 pub record IsTooDeep (number : ℕ) (parent : KeptCertificate) (e : CertError) : Type 0 where
@@ -97,11 +97,11 @@ pub record IsTooDeep (number : ℕ) (parent : KeptCertificate) (e : CertError) :
   pub limited : HasPathLength parent.elements limit
   pub deeper : limit < number
   pub name : IsNameOf parent id
-  pub told : e ≡ errors.InvalidChain (chain.TooDeep id limit)
+  pub returned : e ≡ errors.InvalidChain (chain.TooDeep id limit)
 
 -- the certificate isn't valid
 abbrev pub IsOutside : Window → KeptCertificate → Rule CertError
-IsOutside w kept = IsToldOf kept (IsFirstBroken (window_rules w kept.elements))
+IsOutside w kept = IsReturnedOf kept (IsFirstBroken (window_rules w kept.elements))
 
 -- names or key identifiers don't agree
 abbrev pub IsNoParent : (parent child : KeptCertificate) → Rule CertError
@@ -112,7 +112,7 @@ pub record IsUnsupported (child : KeptCertificate) (e : CertError) : Type 0 wher
   pub id : AlgorithmIdentifier
   pub beside : HasAlgorithm child.elements id
   pub unnamed : (algorithm : SignatureAlgorithm) → NamesSignature id algorithm → ⊥
-  pub told : e ≡ errors.Signature
+  pub returned : e ≡ errors.Signature
       (signature_errors.UnsupportedAlgorithm (unsupported.Oid (oid_of id)))
 
 -- an error of a signature as one of a certificate: out of memory is reported as such
@@ -129,13 +129,13 @@ pub record IsBadlySignedLink (judge : Judge) (parent child : CertificateElements
   pub parts : IsSignedWith parent child algorithm info
   pub refused : IsFirstBroken
       (verify_rules judge algorithm info (signed_octets child) child.signature) source
-  pub told : cause ≡ causes.Signature source
+  pub returned : cause ≡ causes.Signature source
 
 -- the rules of signatures, in their order
 abbrev pub link_signature_rules : Judge → (parent child : KeptCertificate) → List (Rule CertError)
 link_signature_rules judge parent child =
     IsUnsupported child ∷
-    IsToldOf child (IsBadlySignedLink judge parent.elements child.elements) ∷ []
+    IsReturnedOf child (IsBadlySignedLink judge parent.elements child.elements) ∷ []
 
 -- The rules of a link, in their order.
 abbrev pub link_rules : Judge → Window → ℕ → (parent child : KeptCertificate)

@@ -91,14 +91,14 @@ pub record IsNotYetValid (w : Window) (f : CertificateElements) (cause : CertCau
   pub begins : IsNotBefore f not_before
   pub last : latest w.date ≡ Some now
   pub early : IsEarlier now not_before
-  pub told : cause ≡ causes.CertificateNotYetValid not_before now
+  pub returned : cause ≡ causes.CertificateNotYetValid not_before now
 
 -- not-after is before the first moment
 pub record IsOver (w : Window) (f : CertificateElements) (cause : CertCause) : Type 0 where
   pub not_after : GeneralizedTime
   pub now : GeneralizedTime
   pub ended : HasEnded w f not_after now
-  pub told : cause ≡ causes.CertificateExpired not_after now
+  pub returned : cause ≡ causes.CertificateExpired not_after now
 
 -- The rules of a window, in their order.
 abbrev pub window_rules : Window → CertificateElements → List (Rule CertCause)

@@ -14,7 +14,7 @@ ghost use Rattle.x509_core.specs.declared.error.CertError.{CertError};
 ghost use Rattle.x509_core.specs.declared.window.DateCheck.TheVariants as dates;
 
 /// Each step of a history has exactly one list of ancestors.
-pub fn steps_have_one_line()
+pub fn steps_have_one_list_of_ancestors()
     ensures exists { (history : History) (index : ℕ) → IsOrdered history → index < length history
         → (ancestors : List ℕ) × AreAncestors history index ancestors }
     ensures once { (history : History) (index : ℕ) (a b : List ℕ)
@@ -59,9 +59,10 @@ pub fn histories_decide_acceptance()
         ↔ AreAllowed history date issuers }
 {}
 
-/// If the keys of a history signed no other certificates, a certificate that `CertValidator`
-/// accepts with all checks at a date, over one parent or more, of which the last is a root of the
-/// history, has the TBSCertificate of one that was issued and is valid at the date, by the history.
+/// If under the key of each certificate of a history no TBSCertificate is accepted but those of the
+/// certificates issued by it, and a root's own, then a certificate that `CertValidator` accepts with
+/// all checks at a date, over one parent or more, of which the last is a root of the history, has
+/// the TBSCertificate of one that was issued and is valid at the date, by the history.
 pub fn sealed_histories_accept_no_others()
     ensures { (judge : Judge) (history : History) (certificates : List KeptCertificate)
         (date : GeneralizedTime) (root : ℕ) (anchor checked parent : KeptCertificate)

@@ -1,6 +1,6 @@
 //! Certificates: reading them, stored with their octets, and access to their fields; whether one
-//! may be the parent of another, and whether some are a chain. The errors of certification
-//! requests.
+//! may be the parent of another, and whether some are a chain. Laws on issuing histories. The errors
+//! of certification requests.
 #![tactic(auto)]
 
 mod cert;
@@ -16,6 +16,7 @@ mod keyless;
 mod laws;
 mod link;
 mod parent;
+mod places;
 mod validator;
 mod viewed;
 mod window;
@@ -27,10 +28,11 @@ pub use csr_error::CsrError;
 pub use error::{Arg, CaChainError, CertCause, CertError, ExtName};
 pub use history_laws::{
     histories_decide_acceptance, histories_grow_by_steps, sealed_histories_accept_no_others,
-    steps_have_one_line,
+    steps_have_one_list_of_ancestors,
 };
 pub use key_core::Element;
 pub use laws::{certificates_are_written_as_read, elements_and_values_say_the_same};
 pub use parent::names_agree;
+pub use places::Places;
 pub use validator::{CertValidator, ChainChecks};
 pub use window::{DateCheck, Window};

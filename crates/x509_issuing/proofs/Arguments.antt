@@ -27,8 +27,8 @@ have_one_error b =
     (argument_has arguments.ValidFrom b.valid_from, (argument_has arguments.ValidTo b.valid_to, (argument_has arguments.IssuerInfos b.issuer_infos, tt)))
 
 -- one error reports the dates or the issuer
-pub told_once : (b : CertificateBuilder) (e other : CertError) → IsFirstUntaken (given_steps b) e → IsFirstUntaken (argument_steps b) other → e ≡ other
-told_once b e other = one_before (given_steps b) (arguments_by b b.issuer_infos) e other (have_one_error b)
+pub returned_once : (b : CertificateBuilder) (e other : CertError) → IsFirstUntaken (given_steps b) e → IsFirstUntaken (argument_steps b) other → e ≡ other
+returned_once b e other = one_before (given_steps b) (arguments_by b b.issuer_infos) e other (have_one_error b)
 
 -- if the dates and the issuer are given, an argument of the subject is missing
 pub subject_lacks : (b : CertificateBuilder) (issuer : IssuerInfos) (e : CertError) → IsSome b.valid_from → IsSome b.valid_to → b.issuer_infos ≡ Some issuer

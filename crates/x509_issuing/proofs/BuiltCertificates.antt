@@ -97,14 +97,14 @@ module _ (judge : Judge) (signs : Signs) (pair : Pair) (b : CertificateBuilder) 
       → MatchResult r (IsMade (arithmetic judge signs pair) b.signature_hash_type issuer.key.now (λ t. t ≡ tbs)) (RefusesBySteps errors.Memory (signing_steps (arithmetic judge signs pair) b.signature_hash_type issuer.key.now (λ t. t ≡ tbs)))
       → MatchResult r (IsBuilt (arithmetic judge signs pair) b word) (RefusesBySteps errors.Memory (build_steps (arithmetic judge signs pair) b word))
   built_or_refused own name key tbs r to_whom by validity named keyed made =
-      told r (made_or_refused judge signs pair b.signature_hash_type issuer.key.now (λ t. t ≡ tbs) (IsTbsFor judge b issuer word) r
+      returned r (made_or_refused judge signs pair b.signature_hash_type issuer.key.now (λ t. t ≡ tbs) (IsTbsFor judge b issuer word) r
       (λ t e. subst (IsTbsFor judge b issuer word) (sym e) (tbs_for own name key tbs to_whom by validity named keyed)) made)
     where
-      told : (r : Result KeptCertificate CertError)
+      returned : (r : Result KeptCertificate CertError)
           → MatchResult r (IsMade (arithmetic judge signs pair) b.signature_hash_type issuer.key.now (IsTbsFor judge b issuer word)) (RefusesBySteps errors.Memory (signing_steps (arithmetic judge signs pair) b.signature_hash_type issuer.key.now (IsTbsFor judge b issuer word)))
           → MatchResult r (IsBuilt (arithmetic judge signs pair) b word) (RefusesBySteps errors.Memory (build_steps (arithmetic judge signs pair) b word))
-      told (Ok cert) is = record { issuer = issuer; given = issued; made = is }
-      told (Err e) refused =
+      returned (Ok cert) is = record { issuer = issuer; given = issued; made = is }
+      returned (Err e) refused =
           behind_subject own name key e to_whom
           (refused_behind errors.Memory (algorithm_step b ∷ []) (signing_steps (arithmetic judge signs pair) b.signature_hash_type issuer.key.now (IsTbsFor judge b issuer word)) e
           ((tbs.signature, by.issued_by.signs), tt) refused)

@@ -32,7 +32,7 @@ fn has_digests(answer: &Result<Accepted, CheckError>, hash: &[u8]) -> bool {
 }
 
 /// Whether the result is a mismatch with these digests, as values and as text.
-fn is_told(alloc: Global, answer: &Result<Accepted, CheckError>, hash: &[u8]) -> bool {
+fn is_returned(alloc: Global, answer: &Result<Accepted, CheckError>, hash: &[u8]) -> bool {
     match text_of(alloc, answer) {
         Ok(text) => text.as_str() == MISMATCH && has_digests(answer, hash),
         Err(_) => false,
@@ -44,7 +44,7 @@ fn is_mismatch(alloc: Global, file: &[u8], hash: &[u8]) -> Result<bool, Fail> {
     let table = table(alloc, &[])?;
     let policy = basic_policy(alloc, &ASKED)?;
     let answer = check_wincert(alloc, file, &policy, &table);
-    Ok(is_told(alloc, &answer, hash))
+    Ok(is_returned(alloc, &answer, hash))
 }
 
 /// A mismatch reports both digests, as values and as text.
@@ -58,7 +58,7 @@ fn mismatch(rt: HostRuntime) -> Result<(), Fail> {
 
 /// The text of the result for the file, if a table has these verdicts on its signature, in this
 /// order.
-fn told(alloc: Global, file: &[u8], hash: &[u8], verdicts: &[&str]) -> Result<String, Fail> {
+fn returned(alloc: Global, file: &[u8], hash: &[u8], verdicts: &[&str]) -> Result<String, Fail> {
     let table = table_saying(alloc, verdicts)?;
     let policy = basic_policy(alloc, hash)?;
     let answer = check_wincert(alloc, file, &policy, &table);
@@ -83,7 +83,7 @@ fn verdicts(rt: HostRuntime) -> Result<(), Fail> {
     let hash = hex::decode(rt.alloc(), FILE_HASH)?;
     for (words, text) in &VERDICTS {
         assert!(rt;
-            told(rt.alloc(), &file, &hash, words)?.as_str() == *text,
+            returned(rt.alloc(), &file, &hash, words)?.as_str() == *text,
             "{text}"
         );
     }

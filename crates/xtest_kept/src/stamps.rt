@@ -36,11 +36,11 @@ fn outcome_of(
 ) -> Outcome {
     let before = counts(alloc, signature);
     let answer = stamped(alloc, signature, token);
-    let as_told = match answer {
+    let as_returned = match answer {
         Outcome::Stamped => before == (1, 0) && counts(alloc, signature) == (2, 1),
         _ => is_spelled(alloc, signature, octets),
     };
-    if as_told { answer } else { Outcome::Other }
+    if as_returned { answer } else { Outcome::Other }
 }
 
 /// The number of certificates of a signature, and of its counter-signatures; 9 if there is none.

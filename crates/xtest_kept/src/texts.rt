@@ -14,7 +14,7 @@ fn is_refused_so(alloc: Global, octets: &[u8], text: &str) -> bool {
 
 fn begins_so(alloc: Global, error: &Pkcs7Error, text: &str) -> bool {
     match format!(in alloc; "{error}") {
-        Ok(told) => told.as_str().starts_with(text),
+        Ok(returned) => returned.as_str().starts_with(text),
         Err(_) => false,
     }
 }

@@ -33,7 +33,7 @@ fn public_key(alloc: Global, octets: &str) -> Result<PublicKey, Fail> {
 }
 
 /// Whether this is the text of the result for a signature.
-fn is_told<S: Scheme>(
+fn is_returned<S: Scheme>(
     alloc: Global,
     hash: HashAlgorithm,
     key: &PublicKey,
@@ -41,11 +41,11 @@ fn is_told<S: Scheme>(
     scheme: &S,
     want: &str,
 ) -> Result<bool, Fail> {
-    let told = match rsa(hash).verify(alloc, key, message, signature, scheme) {
+    let returned = match rsa(hash).verify(alloc, key, message, signature, scheme) {
         Ok(()) => String::from_str(alloc, "accepted")?,
         Err(error) => format!(in alloc; "{error}")?,
     };
-    Ok(told.as_str() == want)
+    Ok(returned.as_str() == want)
 }
 
 /// A digest algorithm, a key, a message, a signature, the text of the result, and why the case is
@@ -71,19 +71,19 @@ const ROWS: [Row; 7] = [
 ];
 
 /// Whether the result for a case is the expected one.
-fn is_as_told(alloc: Global, row: Row, rows: &ThreeRows) -> Result<bool, Fail> {
+fn is_as_returned(alloc: Global, row: Row, rows: &ThreeRows) -> Result<bool, Fail> {
     let (hash, key, message, signature, want, _why) = row;
     let key = public_key(alloc, key)?;
     let signed = (message.as_bytes(), signature.as_bytes());
-    is_told(alloc, hash, &key, signed, rows, want)
+    is_returned(alloc, hash, &key, signed, rows, want)
 }
 
 #[test]
 fn verdicts(rt: HostRuntime) -> Result<(), Fail> {
     let rows = rows(rt.alloc())?;
     for row in ROWS {
-        let told = is_as_told(rt.alloc(), row, &rows)?;
-        assert!(rt; told, "{}", row.5);
+        let returned = is_as_returned(rt.alloc(), row, &rows)?;
+        assert!(rt; returned, "{}", row.5);
     }
     Ok(())
 }

@@ -30,9 +30,9 @@ const TOLD: &str = "some contents of the tree pass 4294967295 octets and cannot 
 fn keys(rt: HostRuntime) -> Result<(), Fail> {
     for (element, called) in CALLED {
         let source = SOURCE;
-        let told = format!(in rt.alloc(); "{}", KeyError::Asn1Serialization { element, source })?;
+        let returned = format!(in rt.alloc(); "{}", KeyError::Asn1Serialization { element, source })?;
         let want = format!(in rt.alloc(); "(ASN1) couldn't serialize {called}: {TOLD}")?;
-        assert_eq!(rt; told, want);
+        assert_eq!(rt; returned, want);
     }
     Ok(())
 }
@@ -41,18 +41,18 @@ fn keys(rt: HostRuntime) -> Result<(), Fail> {
 fn signatures_and_identifiers(rt: HostRuntime) -> Result<(), Fail> {
     let (element, source) = (Element::RsaPublicKey, SOURCE);
     let unwritten = KeyError::Asn1Serialization { element, source };
-    let told = format!(in rt.alloc(); "{}", SignatureError::Key { source: unwritten })?;
+    let returned = format!(in rt.alloc(); "{}", SignatureError::Key { source: unwritten })?;
     let want = format!(in rt.alloc();
         "Key error: (ASN1) couldn't serialize rsa public key: {TOLD}"
     )?;
-    assert_eq!(rt; told, want);
-    let told = format!(in rt.alloc(); "{}", KeyIdGenError::Asn1Serialization { element, source })?;
+    assert_eq!(rt; returned, want);
+    let returned = format!(in rt.alloc(); "{}", KeyIdGenError::Asn1Serialization { element, source })?;
     let want = format!(in rt.alloc(); "(asn1) couldn't serialize rsa public key: {TOLD}")?;
-    assert_eq!(rt; told, want);
-    let told = format!(in rt.alloc(); "{}", KeyIdGenError::InvalidKey { source: unwritten })?;
+    assert_eq!(rt; returned, want);
+    let returned = format!(in rt.alloc(); "{}", KeyIdGenError::InvalidKey { source: unwritten })?;
     let want = format!(in rt.alloc();
         "invalid key: (ASN1) couldn't serialize rsa public key: {TOLD}"
     )?;
-    assert_eq!(rt; told, want);
+    assert_eq!(rt; returned, want);
     Ok(())
 }

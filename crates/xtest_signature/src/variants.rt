@@ -85,9 +85,9 @@ fn texts_of_errors(rt: HostRuntime) -> Result<(), Fail> {
     let refused = UnsupportedHashAlgorithmError {
         algorithm: HashAlgorithm::SHA2_224,
     };
-    let told = format!(in rt.alloc(); "{refused}; {}", UnsupportedAlgorithmError)?;
+    let returned = format!(in rt.alloc(); "{refused}; {}", UnsupportedAlgorithmError)?;
     let want =
         "digests by SHA-224 are not supported; the identifier names no supported digest algorithm";
-    assert!(rt; told.as_str() == want);
+    assert!(rt; returned.as_str() == want);
     Ok(())
 }

@@ -111,7 +111,7 @@ fn no_signatures_and_no_keys(rt: HostRuntime) -> Result<(), Fail> {
 
 #[test]
 fn texts_of_errors(rt: HostRuntime) -> Result<(), Fail> {
-    let told = format!(in rt.alloc(); "{}; {}", SchemeError::Refused, SchemeError::Memory)?;
-    assert!(rt; told.as_str() == "the signature scheme refused; out of memory");
+    let returned = format!(in rt.alloc(); "{}; {}", SchemeError::Refused, SchemeError::Memory)?;
+    assert!(rt; returned.as_str() == "the signature scheme refused; out of memory");
     Ok(())
 }

@@ -31,9 +31,9 @@ IsVouchedAt judge file_hash f place =
 
 -- if basic validation is checked, its index is reported; else none is
 abbrev pub IsPlaceAsked : Bool → Judge → Option (List ℕ) → SignedDataElements → Option ℕ → Type 0
-IsPlaceAsked true judge file_hash f told =
-    (place : ℕ) × IsVouchedAt judge file_hash f place × (told ≡ Some place)
-IsPlaceAsked false judge file_hash f told = told ≡ None
+IsPlaceAsked true judge file_hash f returned =
+    (place : ℕ) × IsVouchedAt judge file_hash f place × (returned ≡ Some place)
+IsPlaceAsked false judge file_hash f returned = returned ≡ None
 
 -- if the signer's certificate is checked, it is vouched for; else its index is reported, if it is
 -- known, with no path and no excuse
@@ -58,8 +58,8 @@ IsExpiry cause =
     × (cause ≡ causes.CertificateExpired not_after now)
 
 -- the error reports a certificate that has expired
-abbrev pub TellsExpiry : CertError → Type 0
-TellsExpiry e =
+abbrev pub ReturnsExpiry : CertError → Type 0
+ReturnsExpiry e =
     (id : DirectoryName) × (cause : CertCause) × IsExpiry cause
     × (e ≡ cert_errors.InvalidCertificate id cause)
 
@@ -76,5 +76,7 @@ validity_rules judge policy f =
     IsUnbegun policy f ∷ IsUnexcused policy f ∷ IsBadlyStamped judge policy f ∷ []
 
 -- the rules for the signer's certificate once it is known and the dates are given, in order
-abbrev pub valid_and_vouched_rules : Judge → Policy → SignedDataElements → List (Rule AuthenticodeError)
-valid_and_vouched_rules judge policy f = validity_rules judge policy f ++ IsUnvouched judge policy f ∷ []
+abbrev pub valid_and_vouched_rules : Judge → Policy → SignedDataElements
+    → List (Rule AuthenticodeError)
+valid_and_vouched_rules judge policy f =
+    validity_rules judge policy f ++ IsUnvouched judge policy f ∷ []

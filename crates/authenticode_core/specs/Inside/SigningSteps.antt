@@ -42,12 +42,12 @@ pub record NamesSigner (f : SignedDataElements) (named : Named) : Type 0 where
       ↔ AsksForPurposes has.0 (view_elements named.certificate.certificate)
 
 -- The error reports this issuer, given as octets, and this serial number, given as contents octets.
-pub record TellsName (issuer serial_number : List ℕ) (e : AuthenticodeError) : Type 0 where
+pub record ReturnsName (issuer serial_number : List ℕ) (e : AuthenticodeError) : Type 0 where
   pub made : DirectoryName
   pub number : IntegerAsn1
   pub issuer_is : issuer ≡ encoding (name (sets_of made))
   pub number_is : integer_contents number ≡ serial_number
-  pub told : e ≡ errors.NoCertificatesAssociatedWithIssuerAndSerialNumber made number
+  pub returned : e ≡ errors.NoCertificatesAssociatedWithIssuerAndSerialNumber made number
 
 -- the OID of an AlgorithmIdentifier has these contents octets
 abbrev pub IsOfIdentifier : DerElement → List ℕ → Type 0

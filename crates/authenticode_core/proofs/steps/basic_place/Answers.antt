@@ -2,7 +2,7 @@ use Rattle.std.proofs.Common.{Err, ap, refl, ◌∙◌}
 use Rattle.std.proofs.lemmas.Result.{err_from_is_err_and}
 use Rattle.cms_types.specs.SignedView.{data_elements}
 use Rattle.x509_core.proofs.NoRefusal.{no_refusal}
-use Rattle.authenticode_core.proofs.PolicyOrder.{asked_place, asked_refusal, asked_shape, told_same, unasked_place, unasked_shape}
+use Rattle.authenticode_core.proofs.PolicyOrder.{asked_place, asked_refusal, asked_shape, returned_same, unasked_place, unasked_shape}
 use Rattle.authenticode_core.proofs.steps.basic_place.Goals as goal
 
 pub returns-then-not-policy-clause-answer : goal.returns-then-not-policy-clause-answer
@@ -21,7 +21,7 @@ returns-in_err-place-clause-answer g c =
 pub returns-in_err-place-clause-shape : goal.returns-in_err-place-clause-shape
 returns-in_err-place-clause-shape g c = λ e broken.
     let p = err_from_is_err_and c.from_residual.result c.from_residual.ensures.1 in
-    p.1 ∙ ap Err (p.2 ∙ told_same (Err c.in_err-place.field-0.0) c.in_err-place.field-0.0 e refl (c.in_err-place.ensures.shape e (asked_shape (g.S.Scheme.judge c.args.scheme.now) c.args.policy.now (data_elements c.args.signed_data.now) c.args.policy.now.basic e c.if-not-policy.false broken)))
+    p.1 ∙ ap Err (p.2 ∙ returned_same (Err c.in_err-place.field-0.0) c.in_err-place.field-0.0 e refl (c.in_err-place.ensures.shape e (asked_shape (g.S.Scheme.judge c.args.scheme.now) c.args.policy.now (data_elements c.args.signed_data.now) c.args.policy.now.basic e c.if-not-policy.false broken)))
 
 pub returns-clause-answer : goal.returns-clause-answer
 returns-clause-answer g c =

@@ -3,7 +3,7 @@ use Rattle.std.proofs.lemmas.Result.{err_from_is_err_and}
 use Rattle.cms_types.specs.SignedView.{data_elements}
 use Rattle.authenticode_core.proofs.FormFields.{are_spelled}
 use Rattle.x509_core.proofs.NoRefusal.{no_refusal}
-use Rattle.authenticode_core.proofs.PolicyOrder.{basic_refuses, ca_refuses, place_is_signers, signer_refuses, told_is_signers, told_same, with_list, without_list}
+use Rattle.authenticode_core.proofs.PolicyOrder.{basic_refuses, ca_refuses, place_is_signers, signer_refuses, returned_is_signers, returned_same, with_list, without_list}
 use Rattle.authenticode_core.proofs.steps.check_signed_data.Goals as goal
 
 pub basic_place-requires : goal.basic_place-requires
@@ -19,7 +19,7 @@ pub expect_listed_signer-requires-clause-known : goal.expect_listed_signer-requi
 expect_listed_signer-requires-clause-known g c =
     let judge = g.S.Scheme.judge c.args.scheme.now in
     let f = data_elements c.args.signed_data.now in
-    told_is_signers judge c.args.policy.now f c.args.policy.now.signing c.in_ok-known.known c.in_ok-accepted.accepted c.in_ok-accepted.ensures (place_is_signers judge c.args.policy.now f c.args.policy.now.basic c.in_ok-known.known c.in_ok-known.ensures.answer)
+    returned_is_signers judge c.args.policy.now f c.args.policy.now.signing c.in_ok-known.known c.in_ok-accepted.accepted c.in_ok-accepted.ensures (place_is_signers judge c.args.policy.now f c.args.policy.now.basic c.in_ok-known.known c.in_ok-known.ensures.answer)
 
 pub expect_listed_signer-requires-clause-spelled : goal.expect_listed_signer-requires-clause-spelled
 expect_listed_signer-requires-clause-spelled g c = are_spelled c.requires.0 c.args.signed_data.now c.requires.1
@@ -32,7 +32,7 @@ returns-in_err-known-clause-answer g c =
 pub returns-in_err-known-clause-shape : goal.returns-in_err-known-clause-shape
 returns-in_err-known-clause-shape g c = λ e broken.
     let p = err_from_is_err_and c.from_residual.result c.from_residual.ensures.1 in
-    p.1 ∙ ap Err (p.2 ∙ told_same (Err c.in_err-known.field-0.0) c.in_err-known.field-0.0 e refl (c.in_err-known.ensures.shape e broken))
+    p.1 ∙ ap Err (p.2 ∙ returned_same (Err c.in_err-known.field-0.0) c.in_err-known.field-0.0 e refl (c.in_err-known.ensures.shape e broken))
 
 pub returns-in_err-accepted-clause-answer : goal.returns-in_err-accepted-clause-answer
 returns-in_err-accepted-clause-answer g c =

@@ -26,4 +26,4 @@ pub returns-in-Ok-clause-sink_once : goal.returns-in-Ok-clause-sink_once
 returns-in-Ok-clause-sink_once g c = c.deliver.ensures.once
 
 pub returns-in-Err-clause-shelf_once : goal.returns-in-Err-clause-shelf_once
-returns-in-Err-clause-shelf_once g c = failed_as (λ told. c.status.ensures ∙ ap status_for (one_error c.in-Err.stop _ told)) c.in-Err.ensures.once
+returns-in-Err-clause-shelf_once g c = failed_as (λ returned. c.status.ensures ∙ ap status_for (one_error c.in-Err.stop _ returned)) c.in-Err.ensures.once

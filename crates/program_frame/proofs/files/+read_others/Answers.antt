@@ -33,7 +33,7 @@ returns-clause-unread g t c =
 pub returns-in_err-read_file-clause-once : goal.returns-in_err-read_file-clause-once
 returns-in_err-read_file-clause-once g t c =
     let p = err_from_is_err_and c.from_residual.result c.from_residual.ensures.1 in
-    failed_as (λ told. p.1 ∙ ap Err (p.2 ∙ one_error c.in_err-read_file.field-0.0 _ told)) c.in_err-read_file.ensures.once
+    failed_as (λ returned. p.1 ∙ ap Err (p.2 ∙ one_error c.in_err-read_file.field-0.0 _ returned)) c.in_err-read_file.ensures.once
 
 pub returns-in_err-push-clause-once : goal.returns-in_err-push-clause-once
 returns-in_err-push-clause-once g t c = none_failed (stands c.in_ok-read_file.ensures.once (λ none. absurd cc))

@@ -44,17 +44,17 @@ returns-in_err-read_others-clause-read g c =
 pub returns-in_err-first-clause-once : goal.returns-in_err-first-clause-once
 returns-in_err-first-clause-once g c =
     let p = err_from_is_err_and c.from_residual.result c.from_residual.ensures.1 in
-    failed_as (λ told. p.1 ∙ ap Err (p.2 ∙ one_error c.in_err-first.field-0.0 _ told)) c.in_err-first.ensures.once
+    failed_as (λ returned. p.1 ∙ ap Err (p.2 ∙ one_error c.in_err-first.field-0.0 _ returned)) c.in_err-first.ensures.once
 
 pub returns-in_err-second-clause-once : goal.returns-in_err-second-clause-once
 returns-in_err-second-clause-once g c =
     let p = err_from_is_err_and c.from_residual-in_err-second.result c.from_residual-in_err-second.ensures.1 in
-    failed_as (λ told. p.1 ∙ ap Err (p.2 ∙ one_error c.in_err-second.field-0.0 _ told)) (failed_then (stands c.in_ok-first.ensures.once (λ none. absurd cc)) c.in_err-second.ensures.once)
+    failed_as (λ returned. p.1 ∙ ap Err (p.2 ∙ one_error c.in_err-second.field-0.0 _ returned)) (failed_then (stands c.in_ok-first.ensures.once (λ none. absurd cc)) c.in_err-second.ensures.once)
 
 pub returns-in_err-read_others-clause-once : goal.returns-in_err-read_others-clause-once
 returns-in_err-read_others-clause-once g c =
     let p = err_from_is_err_and c.from_residual-in_err-read_others.result c.from_residual-in_err-read_others.ensures.1 in
-    failed_as (λ told. p.1 ∙ ap Err (p.2 ∙ one_error c.in_err-read_others.field-0.0 _ told))
+    failed_as (λ returned. p.1 ∙ ap Err (p.2 ∙ one_error c.in_err-read_others.field-0.0 _ returned))
     (failed_then (stands c.in_ok-second.ensures.once (λ none. absurd cc) ∙ stands c.in_ok-first.ensures.once (λ none. absurd cc)) c.in_err-read_others.ensures.once)
 
 pub returns-clause-once : goal.returns-clause-once

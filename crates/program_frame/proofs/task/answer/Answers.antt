@@ -22,7 +22,7 @@ returns-clause-found g c =
 pub returns-in_err-contents-clause-once : goal.returns-in_err-contents-clause-once
 returns-in_err-contents-clause-once g c =
     let p = err_from_is_err_and c.from_residual.result c.from_residual.ensures.1 in
-    failed_as (λ told. p.1 ∙ ap Err (p.2 ∙ ap stop_for_file (one_error c.in_err-contents.field-0.0 _ told))) c.in_err-contents.ensures.once
+    failed_as (λ returned. p.1 ∙ ap Err (p.2 ∙ ap stop_for_file (one_error c.in_err-contents.field-0.0 _ returned))) c.in_err-contents.ensures.once
 
 pub returns-clause-once : goal.returns-clause-once
 returns-clause-once g c = none_failed (stands c.in_ok-contents.ensures.once (λ none. absurd cc))

@@ -3,7 +3,7 @@ use Rattle.std.proofs.lemmas.Result.{err_from_is_err_and}
 use Rattle.authenticode_signature.specs.BuilderParts.{given_of}
 use Rattle.authenticode_signature.specs.Pkcs7.{fields_of}
 use Rattle.authenticode_signature.proofs.BuilderSteps.{built_as, not_built, not_given}
-use Rattle.authenticode_signature.proofs.GivenErrors.{not_told, told_once}
+use Rattle.authenticode_signature.proofs.GivenErrors.{not_returned, returned_once}
 use Rattle.authenticode_signature.proofs.builder.AuthenticodeSignatureBuilder.signature.Goals as goal
 
 pub returns-in_err-given-clause-answer : goal.returns-in_err-given-clause-answer
@@ -26,10 +26,10 @@ returns-clause-answer g c =
 pub returns-in_err-given-clause-refused : goal.returns-in_err-given-clause-refused
 returns-in_err-given-clause-refused g c = λ e first.
     let p = err_from_is_err_and c.from_residual.result c.from_residual.ensures.1 in
-    rw (p.1, p.2) (ap Err (told_once c.args.self.now c.in_err-given.field-0.0 e c.in_err-given.ensures first))
+    rw (p.1, p.2) (ap Err (returned_once c.args.self.now c.in_err-given.field-0.0 e c.in_err-given.ensures first))
 
 pub returns-in_err-built-clause-refused : goal.returns-in_err-built-clause-refused
-returns-in_err-built-clause-refused g c = λ e first. absurd (not_told c.args.self.now e c.in_ok-given.ensures.1 first)
+returns-in_err-built-clause-refused g c = λ e first. absurd (not_returned c.args.self.now e c.in_ok-given.ensures.1 first)
 
 pub returns-clause-refused : goal.returns-clause-refused
-returns-clause-refused g c = λ e first. absurd (not_told c.args.self.now e c.in_ok-given.ensures.1 first)
+returns-clause-refused g c = λ e first. absurd (not_returned c.args.self.now e c.in_ok-given.ensures.1 first)

@@ -89,7 +89,7 @@ returns-in_err-opus-clause-unsupported g c = λ nameless sha. let no = c.in_err-
 pub returns-in_err-algorithm-clause-unsupported : goal.returns-in_err-algorithm-clause-unsupported
 returns-in_err-algorithm-clause-unsupported g c = λ nameless sha.
     let p = err_from_is_err_and c.from_residual-in_err-algorithm.result c.from_residual-in_err-algorithm.ensures.1 in
-    rw (p.1, p.2) (ap Err c.in_err-algorithm.ensures.told)
+    rw (p.1, p.2) (ap Err c.in_err-algorithm.ensures.returned)
 
 pub returns-in_err-bag-clause-unsupported : goal.returns-in_err-bag-clause-unsupported
 returns-in_err-bag-clause-unsupported g c = λ nameless sha. absurd (c.in_ok-algorithm.ensures.answer.1 sha)

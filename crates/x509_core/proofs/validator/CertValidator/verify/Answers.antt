@@ -7,7 +7,7 @@ use Rattle.x509_core.specs.Rules.{Breaks}
 use Rattle.x509_core.specs.Window.{IsWithinWindow}
 use Rattle.x509_core.proofs.SameChains.{same_valid, same_refusal, same_chain, same_kind}
 use Rattle.x509_core.proofs.Verdicts.{outside, unasked, no_chain, refused_chain, verdict}
-use Rattle.x509_core.proofs.Walks.{undated_is_told, where_asked, unrooted_is_told, undated, invalid, unlooked, chainless, refused_walk, walk}
+use Rattle.x509_core.proofs.Walks.{undated_is_returned, where_asked, unrooted_is_returned, undated, invalid, unlooked, chainless, refused_walk, walk}
 use Rattle.x509_core.proofs.validator.CertValidator.verify.Goals as goal
 
 pub returns-in_err-expect_date : goal.returns-in_err-expect_date
@@ -16,7 +16,7 @@ returns-in_err-expect_date g c =
     record {
       answer = λ given gives. rw (p.1, p.2) (inl (inl c.in_err-expect_date.ensures));
       walked = rw (p.1, p.2) (undated (g.S.Scheme.judge c.args.scheme.now) g.Chain.Iterator.next_gives c.args.self.checks c.args.self.cert.now c.args.self.chain c.in_err-expect_date.field-0.0 c.in_err-expect_date.ensures);
-      memory = rw (p.1, p.2) (λ none. absurd (undated_is_told c.args.self.checks c.in_err-expect_date.field-0.0 c.in_err-expect_date.ensures none));
+      memory = rw (p.1, p.2) (λ none. absurd (undated_is_returned c.args.self.checks c.in_err-expect_date.field-0.0 c.in_err-expect_date.ensures none));
     }
 
 pub returns-in_err-expect_valid : goal.returns-in_err-expect_valid
@@ -89,5 +89,5 @@ returns g c =
       walked =
           walk (g.S.Scheme.judge c.args.scheme.now) g.Chain.Iterator.next_gives c.args.self.checks c.args.self.cert.now c.in_ok-expect_date.ensures valid asked
           c.args.self.chain c.in-Some.chain c.in-Some.is ran.0 ran.1 c.in_ok-last.last c.expect_root.result linked kind c.expect_root.ensures;
-      memory = unrooted_is_told _ _ _ _ c.expect_root.result c.expect_root.ensures;
+      memory = unrooted_is_returned _ _ _ _ c.expect_root.result c.expect_root.ensures;
     }

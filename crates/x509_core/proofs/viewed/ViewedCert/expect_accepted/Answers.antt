@@ -28,4 +28,4 @@ returns-in-Err g c =
     (signed_with parent child c.args.algorithm info c.public_key.ensures c.requires)
     (c.tbs.ensures ∙ ap signed_octets c.args.self.now.same)
     (c.signature.ensures ∙ ap (λ (f : CertificateElements). f.signature) c.args.self.now.same)
-    c.in-Err.ensures.answer c.badly_signed.ensures.memory c.badly_signed.ensures.told
+    c.in-Err.ensures.answer c.badly_signed.ensures.memory c.badly_signed.ensures.returned

@@ -2,7 +2,7 @@ use Rattle.std.proofs.Common.{subst}
 use Rattle.der_core.specs.Rules.{IsFirstBroken}
 use Rattle.x509_types.specs.CertificateElements.{CertificateElements}
 use Rattle.x509_core.specs.Window.{window_rules}
-use Rattle.x509_core.proofs.SignedParts.{told_of}
+use Rattle.x509_core.proofs.SignedParts.{returned_of}
 use Rattle.x509_core.proofs.Validity.{valid_is_met}
 use Rattle.x509_core.proofs.viewed.ViewedCert.expect_valid.Goals as goal
 
@@ -12,6 +12,6 @@ returns-in-Err c =
     let kept = c.args.self.now.cert.now in
     let broken = subst (λ (f : CertificateElements). IsFirstBroken (window_rules w f) c.in-Err.cause) c.args.self.now.same c.in-Err.ensures in
     record {
-      answer = told_of kept (IsFirstBroken (window_rules w kept.elements)) c.in-Err.cause c.invalid.result broken c.invalid.ensures;
+      answer = returned_of kept (IsFirstBroken (window_rules w kept.elements)) c.in-Err.cause c.invalid.result broken c.invalid.ensures;
       valid = λ within. valid_is_met w kept.elements c.in-Err.cause within broken;
     }

@@ -15,7 +15,7 @@ returns-then-is_earlier c =
       begins = time_at _ _ _ c.not_before.ensures c.from-not_before.ensures;
       last = last;
       early = c.is_earlier.ensures.0 (search rules);
-      told = refl;
+      returned = refl;
     }
 
 pub returns : goal.returns

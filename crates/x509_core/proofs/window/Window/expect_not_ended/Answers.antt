@@ -17,7 +17,7 @@ returns-then-is_earlier c =
         first = first;
         passed = c.is_earlier.ensures.0 (search rules);
       };
-      told = refl;
+      returned = refl;
     }
 
 pub returns : goal.returns

@@ -2,7 +2,7 @@ use Rattle.std.proofs.Common.{Err, ap, sym, subst}
 use Rattle.std.proofs.lemmas.Result.{err_from_is_err_and}
 use Rattle.x509_core.proofs.NoRefusal.{no_refusal, one_error}
 use Rattle.x509_issuing.specs.BuiltCertificate.{IsValidityOf}
-use Rattle.x509_issuing.proofs.Arguments.{some_of, subject_lacks, told_once}
+use Rattle.x509_issuing.proofs.Arguments.{some_of, subject_lacks, returned_once}
 use Rattle.x509_issuing.proofs.BuiltCertificates.{not_given, no_subject, no_algorithm, built_or_refused}
 use Rattle.x509_issuing.proofs.builder.CertificateBuilder.built.Goals as goal
 
@@ -38,7 +38,7 @@ returns-clause-answer g c =
 pub returns-in_err-valid_from-clause-refused : goal.returns-in_err-valid_from-clause-refused
 returns-in_err-valid_from-clause-refused g c = λ e first.
     let p = err_from_is_err_and c.from_residual.result c.from_residual.ensures.1 in
-    rw (p.1, p.2) (ap Err (told_once c.args.self.now c.in_err-valid_from.field-0.0 e c.in_err-valid_from.ensures first))
+    rw (p.1, p.2) (ap Err (returned_once c.args.self.now c.in_err-valid_from.field-0.0 e c.in_err-valid_from.ensures first))
 
 pub returns-in_err-subject-clause-refused : goal.returns-in_err-subject-clause-refused
 returns-in_err-subject-clause-refused g c = λ e first.

@@ -1,5 +1,0 @@
-use Rattle.authenticode_core.proofs.SignerOrder.{tells_so}
-use Rattle.authenticode_core.proofs.signer.tells_expiry.Goals as goal
-
-pub returns-in-InvalidCertificate : goal.returns-in-InvalidCertificate
-returns-in-InvalidCertificate c = tells_so c.args.error.now _ c.in-InvalidCertificate.source c.is_expiry.result c.in-InvalidCertificate.is c.is_expiry.ensures
