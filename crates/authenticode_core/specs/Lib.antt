@@ -19,6 +19,8 @@ pub mod ContentRefusal
 pub mod StampRefusal
 pub mod ErrorText
 pub mod RefusalName
+-- The text of a result.
+pub mod AcceptedText
 -- The plain form, whose law is `plain_form_is_judged`.
 pub mod PlainForm
 pub mod PlainFields
@@ -30,6 +32,7 @@ pub mod SigningRules
 pub mod SignerRules
 pub mod LinkedPath
 pub mod TrustList
+pub mod ListOctets
 pub mod Excuses
 pub mod ListRules
 -- What the rules read.

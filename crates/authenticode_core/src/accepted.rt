@@ -1,9 +1,11 @@
 //! The result of checking a signature.
 
-ghost use Rattle.std.specs.Prelude.{◌≡◌, IfOk};
+ghost use Rattle.std.specs.Prelude.{◌≡◌, Some, IfOk};
+ghost use Rattle.authenticode_core.specs.AcceptedText.{accepted_text, excuse_word};
 ghost use Rattle.authenticode_core.specs.Inside.PolicySteps.{at_place};
 
 use std::alloc::{AllocError, Global};
+use std::fmt;
 use x509_core::Places;
 
 /// Why the expiry of a signer's certificate is excused.
@@ -16,6 +18,19 @@ pub enum Excuse {
     /// No certificate in the bag has it, but one in the time-stamp token has, and the token's first
     /// certificate is linked to its others with another subject.
     Token,
+}
+
+/// Prints `none`, `bag` or `token`.
+impl fmt::Display for Excuse {
+    ghost output = { λ excuse. Some (excuse_word excuse) };
+
+    fn fmt<W: fmt::Write>(&self, f: &mut fmt::Formatter<W>) -> fmt::Result {
+        match self {
+            Excuse::None => write!(f, "none"),
+            Excuse::Bag => write!(f, "bag"),
+            Excuse::Token => write!(f, "token"),
+        }
+    }
 }
 
 /// What is reported of an accepted signature.
@@ -51,5 +66,19 @@ impl Accepted {
             path: self.path.try_clone(alloc)?,
             excuse: self.excuse,
         })
+    }
+}
+
+/// Prints `signer=S path=P,P excuse=E`: the indices in decimal, nothing for none, those of the path
+/// separated by commas.
+impl fmt::Display for Accepted {
+    ghost output = { λ accepted. Some (accepted_text accepted) };
+
+    fn fmt<W: fmt::Write>(&self, f: &mut fmt::Formatter<W>) -> fmt::Result {
+        write!(f, "signer=")?;
+        if let Some(place) = self.signer {
+            write!(f, "{place}")?;
+        }
+        write!(f, " path={} excuse={}", self.path, self.excuse)
     }
 }

@@ -13,7 +13,7 @@ use Rattle.authenticode_core.specs.declared.ctl.CertificateTrustList.{Certificat
 use Rattle.authenticode_core.specs.declared.error.CheckError.{CheckError}
 use Rattle.authenticode_core.specs.declared.error.CheckError.TheVariants as check
 use Rattle.picky_check.specs.Report.{refused_line}
-use Rattle.picky_check.specs.SignatureAnswer.{IsTrustList, IsUnreadList}
+use Rattle.authenticode_core.specs.ListOctets.{IsTrustList, IsUnreadList}
 
 pub one_list : (octets : List ℕ) (a b : CertificateTrustList) → IsTrustList octets a → IsTrustList octets b → a ≡ b
 one_list octets a b x y =

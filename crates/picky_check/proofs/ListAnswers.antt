@@ -14,7 +14,8 @@ use Rattle.program_frame.specs.declared.stop.Stop.{Stop}
 use Rattle.picky_check.specs.Inquiry.{GivesReport, IsReported, Reports}
 use Rattle.picky_check.specs.Policies.{check_policy}
 use Rattle.picky_check.specs.Report.{Answer, OfSignature, OfChain, WantsMemory, refused_line}
-use Rattle.picky_check.specs.SignatureAnswer.{IsListAnswer, IsListRefusal, IsSignatureAnswer, IsTrustList, IsUnreadList}
+use Rattle.authenticode_core.specs.ListOctets.{IsTrustList, IsUnreadList}
+use Rattle.picky_check.specs.SignatureAnswer.{IsListAnswer, IsListRefusal, IsSignatureAnswer}
 use Rattle.picky_check.proofs.GivenLists.{one_list, unread_for_memory, unread_line}
 use Rattle.picky_check.proofs.LentLists.{answer_under}
 use Rattle.picky_check.proofs.Reported.{out_of_memory, reported_is}

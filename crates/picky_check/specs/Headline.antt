@@ -6,6 +6,7 @@ use Rattle.cms_types.specs.SignedDataElements.{SignedDataElements}
 use Rattle.sig_core.specs.declared.verdict_row.VerdictRow.{VerdictRow}
 use Rattle.sig_core.specs.VerdictTable.{IsTable, verdict_of}
 use Rattle.authenticode_core.specs.Basic.{HasSignedData, VouchesFor}
+use Rattle.authenticode_core.specs.ListOctets.{IsTrustList}
 use Rattle.authenticode_core.specs.ListRules.{IsSignerListed}
 use Rattle.authenticode_core.specs.SignerRules.{IsSignerVouched}
 use Rattle.authenticode_core.specs.declared.accepted.Accepted.{Accepted}
@@ -18,7 +19,6 @@ use Rattle.picky_check.specs.Policies.{check_policy}
 use Rattle.program_frame.specs.ReadFiles.{HandsOut, total_length}
 use Rattle.picky_check.specs.Report.{accepted_line}
 use Rattle.program_frame.specs.Shelf.{Files, ShelfState}
-use Rattle.picky_check.specs.SignatureAnswer.{IsTrustList}
 use Rattle.program_frame.specs.Sink.{Appends}
 use Rattle.picky_check.specs.Words.{Basic, Check, AsksFor}
 

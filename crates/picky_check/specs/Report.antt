@@ -1,8 +1,7 @@
 -- The answer, and the line that a run reports.
-use Rattle.std.specs.Prelude.{ℕ, List, [], ◌∷◌, ◌++◌, Option, Some, None, Result, Ok, Err, codes, decimal, flat_map}
+use Rattle.std.specs.Prelude.{ℕ, List, [], ◌∷◌, ◌++◌, Result, Ok, Err, codes, decimal}
+use Rattle.authenticode_core.specs.AcceptedText.{accepted_text}
 use Rattle.authenticode_core.specs.declared.accepted.Accepted.{Accepted}
-use Rattle.authenticode_core.specs.declared.accepted.Excuse.{Excuse}
-use Rattle.authenticode_core.specs.declared.accepted.Excuse.TheVariants as excuse
 use Rattle.authenticode_core.specs.declared.error.CheckError.{CheckError}
 use Rattle.authenticode_core.specs.declared.error.CheckError.TheVariants as check
 use Rattle.authenticode_core.specs.RefusalName.{refusal_name}
@@ -25,32 +24,9 @@ WantsMemory (OfSignature (Err check.Memory)) = Unit {0}
 WantsMemory (OfChain (Err cert.Memory)) = Unit {0}
 WantsMemory answer = ⊥
 
--- the word for an excuse
-abbrev pub excuse_word : Excuse → List ℕ
-excuse_word excuse.None = codes "none"
-excuse_word excuse.Bag = codes "bag"
-excuse_word excuse.Token = codes "token"
-
--- an index, in decimal, or nothing
-abbrev pub place_text : Option ℕ → List ℕ
-place_text (Some place) = decimal place
-place_text None = []
-
--- the separator between indices
-abbrev comma : ℕ
-comma = 0x2C
-
--- indices separated by commas
-abbrev pub places_text : List ℕ → List ℕ
-places_text [] = []
-places_text (first ∷ others) = decimal first ++ flat_map (λ place. comma ∷ decimal place) others
-
 -- accepted signer=S path=P,P excuse=E
 abbrev pub accepted_line : Accepted → List ℕ
-accepted_line accepted =
-    codes "accepted signer=" ++ place_text accepted.signer
-    ++ codes " path=" ++ places_text accepted.path
-    ++ codes " excuse=" ++ excuse_word accepted.excuse ++ newline ∷ []
+accepted_line accepted = codes "accepted " ++ accepted_text accepted ++ newline ∷ []
 
 -- accepted parents=K
 abbrev pub parents_line : ℕ → List ℕ

@@ -1,15 +1,11 @@
 -- The result for a signature file, from its octets and those of a trust list, if one is given.
 use Rattle.std.specs.Prelude.{◌≡◌, ◌⊎◌, ℕ, List, [], ◌∷◌, Option, Some, None, Result, Ok, Err}
 use Rattle.std.specs.Borrow.{Bor}
-use Rattle.der_core.specs.Refusals.{RefusesOctets, Returns}
-use Rattle.der_core.specs.Structure.{IsWithin}
 use Rattle.key_core.specs.Verifying.{Judge}
-use Rattle.authenticode_core.specs.ContentRefusal.{of_ctl, returned_of_content}
-use Rattle.authenticode_core.specs.TrustList.{IsSignedData, unread_list}
+use Rattle.authenticode_core.specs.ListOctets.{IsTrustList, IsUnreadList}
 use Rattle.authenticode_core.specs.Trusted.{IsAnswer}
 use Rattle.authenticode_core.specs.declared.accepted.Accepted.{Accepted}
 use Rattle.authenticode_core.specs.declared.ctl.CertificateTrustList.{CertificateTrustList}
-use Rattle.authenticode_core.specs.declared.ctl_error.CtlError.{CtlError}
 use Rattle.authenticode_core.specs.declared.error.CheckError.{CheckError}
 use Rattle.authenticode_core.specs.declared.policy.Policy.{Policy}
 use Rattle.picky_check.specs.Report.{Answer, OfSignature, OfChain}
@@ -27,17 +23,7 @@ IsSignatureAnswer judge policy octets (OfChain given) = ⊥
 
 -- ---- with a trust list
 
--- The octets are those of this list: signed data, whatever its content.
-abbrev pub IsTrustList : (octets : List ℕ) → CertificateTrustList → Type 0
-IsTrustList octets list = IsWithin IsSignedData octets list.signed
-
--- The octets aren't read as a list, and this is reported.
-abbrev pub IsUnreadList : (octets : List ℕ) → CheckError → Type 0
-IsUnreadList octets e =
-    (cause : CtlError) × Returns unread_list (RefusesOctets IsSignedData octets) cause
-    × (e ≡ returned_of_content (of_ctl cause))
-
--- the same of an answer
+-- the octets aren't read as a list, and the answer is why
 abbrev pub IsListRefusal : (octets : List ℕ) → Answer → Type 0
 IsListRefusal octets (OfSignature (Err e)) = IsUnreadList octets e
 IsListRefusal octets answer = ⊥

@@ -1,10 +1,10 @@
 //! The line that a run reports, and its status.
 
-ghost use Rattle.std.specs.Prelude.{◌≡◌, ◌++◌, IfOk, OnOk, string_bytes};
+ghost use Rattle.std.specs.Prelude.{◌≡◌, IfOk, string_bytes};
 ghost use Rattle.picky_check.specs.Inquiry.{IsReported};
-ghost use Rattle.picky_check.specs.Report.{OfChain, OfSignature, accepted_line, excuse_word, parents_line, places_text, refused_chain_line, refused_line};
+ghost use Rattle.picky_check.specs.Report.{OfChain, OfSignature, accepted_line, parents_line, refused_chain_line, refused_line};
 
-use authenticode_core::{Accepted, CheckError, Excuse};
+use authenticode_core::{Accepted, CheckError};
 use program_frame::{ACCEPTED, REFUSED, Report, Stop};
 use std::alloc::{AllocError, Global};
 use x509_core::CertError;
@@ -54,38 +54,7 @@ pub(crate) fn chain_report_of(
 pub fn accepted_line(alloc: Global, accepted: &Accepted) -> Result<String, AllocError>
     ensures { IfOk result (λ line. string_bytes line ≡ accepted_line accepted.now) }
 {
-    let mut line = String::from_str(alloc, "accepted signer=")?;
-    if let Some(place) = accepted.signer {
-        write!(line, "{place}")?;
-    }
-    line.push_str(" path=")?;
-    push_places(&mut line, accepted.path.as_slice())?;
-    writeln!(line, " excuse={}", excuse_word(accepted.excuse))?;
-    Ok(line)
-}
-
-fn push_places(line: &mut String, places: &[usize]) -> Result<(), AllocError>
-    ensures { OnOk result
-        (string_bytes line.new ≡ string_bytes line.old ++ places_text places.now) }
-{
-    let [first, others @ ..] = places else {
-        return Ok(());
-    };
-    write!(line, "{first}")?;
-    for place in others {
-        write!(line, ",{place}")?;
-    }
-    Ok(())
-}
-
-fn excuse_word(excuse: Excuse) -> &'static str
-    ensures { result.now ≡ excuse_word excuse }
-{
-    match excuse {
-        Excuse::None => "none",
-        Excuse::Bag => "bag",
-        Excuse::Token => "token",
-    }
+    format!(in alloc; "accepted {accepted}\n")
 }
 
 /// The line of a refused signature, `refused NAME` and a newline.

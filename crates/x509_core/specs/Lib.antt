@@ -21,4 +21,5 @@ pub mod Spellings
 pub mod CsrErrorText
 pub mod ErrorText
 pub mod ErrorName
+pub mod PlacesText
 pub mod Facts

@@ -1,8 +1,10 @@
 //! Indices in a list of certificates.
 
-ghost use Rattle.std.specs.Prelude.{◌≡◌, ◌++◌, ◌∷◌, [], IfOk, OnOk, OnErr};
+ghost use Rattle.std.specs.Prelude.{◌≡◌, ◌++◌, ◌∷◌, [], Some, IfOk, OnOk, OnErr};
+ghost use Rattle.x509_core.specs.PlacesText.{places_text};
 
 use std::alloc::{AllocError, Global};
+use std::fmt;
 use std::marker::Model;
 
 /// Indices in a list of certificates, from 0.
@@ -52,5 +54,21 @@ impl Places {
         Ok(Places {
             items: Vec::from_slice(alloc, &self.items)?,
         })
+    }
+}
+
+/// Prints the indices in decimal, separated by commas.
+impl fmt::Display for Places {
+    ghost output = { λ places. Some (places_text places) };
+
+    fn fmt<W: fmt::Write>(&self, f: &mut fmt::Formatter<W>) -> fmt::Result {
+        let Some((first, others)) = self.as_slice().split_first() else {
+            return Ok(());
+        };
+        write!(f, "{first}")?;
+        for place in others {
+            write!(f, ",{place}")?;
+        }
+        Ok(())
     }
 }

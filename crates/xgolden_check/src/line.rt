@@ -1,7 +1,7 @@
 //! The line for a result: that of a report, and the text of a refusal.
 
 use anyhow::Result;
-use authenticode_core::{Accepted, AuthenticodeError, CheckError, CtlError, Excuse};
+use authenticode_core::{Accepted, AuthenticodeError, CheckError, CtlError};
 use std::alloc::{AllocError, Global};
 
 /// The line for a result.
@@ -18,34 +18,7 @@ pub fn unread_line(alloc: Global, error: CtlError) -> Result<String> {
 }
 
 fn accepted_line(alloc: Global, accepted: &Accepted) -> Result<String> {
-    let mut line = String::from_str(alloc, "accepted signer=")?;
-    if let Some(place) = accepted.signer {
-        write!(line, "{place}")?;
-    }
-    line.push_str(" path=")?;
-    push_places(&mut line, accepted.path.as_slice())?;
-    let excuse = excuse_word(accepted.excuse);
-    write!(line, " excuse={excuse}")?;
-    Ok(line)
-}
-
-fn push_places(line: &mut String, places: &[usize]) -> Result<(), AllocError> {
-    let [first, others @ ..] = places else {
-        return Ok(());
-    };
-    write!(line, "{first}")?;
-    for place in others {
-        write!(line, ",{place}")?;
-    }
-    Ok(())
-}
-
-fn excuse_word(excuse: Excuse) -> &'static str {
-    match excuse {
-        Excuse::None => "none",
-        Excuse::Bag => "bag",
-        Excuse::Token => "token",
-    }
+    Ok(format!(in alloc; "accepted {accepted}")?)
 }
 
 fn refused_line(alloc: Global, error: &CheckError) -> Result<String> {
