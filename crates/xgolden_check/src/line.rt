@@ -2,7 +2,7 @@
 
 use anyhow::Result;
 use authenticode_core::{Accepted, AuthenticodeError, CheckError, CtlError};
-use std::alloc::{AllocError, Global};
+use std::alloc::Global;
 
 /// The line for a result.
 pub fn returned(alloc: Global, answer: &Result<Accepted, CheckError>) -> Result<String> {
