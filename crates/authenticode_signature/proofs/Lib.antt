@@ -13,3 +13,4 @@ pub mod GivenErrors
 pub mod Requests
 pub mod Stamps
 pub mod Verdicts
+pub mod HistorySignatures

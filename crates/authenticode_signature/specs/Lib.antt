@@ -15,6 +15,7 @@ pub mod TokenStamp
 pub mod Making
 pub mod MadeProgram
 pub mod MadeFile
+pub mod HistorySignature
 pub mod FileRefusals
 pub mod BuilderError
 pub mod Building

@@ -1,5 +1,6 @@
 //! Owned signed data and Authenticode signatures: reading and writing them, access to their
-//! certificates, the signer's among them, and to what is signed, and timestamping them.
+//! certificates, the signer's among them, and to what is signed, and timestamping them. A law on
+//! signatures by the certificates of a CA.
 #![tactic(auto)]
 
 mod alone;
@@ -7,6 +8,7 @@ mod bag;
 mod builder;
 mod builder_error;
 mod certificates;
+mod history_laws;
 mod made_files;
 mod making;
 mod padded;
@@ -24,6 +26,7 @@ pub use authenticode_core::{CertificateTrustList, CtlError, Pkcs7Error};
 pub use builder::AuthenticodeSignatureBuilder;
 pub use builder_error::AuthenticodeSignatureBuilderError;
 pub use certificates::SignatureCertificatesIterator;
+pub use history_laws::histories_decide_signatures;
 pub use made_files::{check_made, decode_signature, encode_signature};
 pub use pkcs7::Pkcs7;
 pub use signature::AuthenticodeSignature;

@@ -1,5 +1,5 @@
 -- The result for a signature file, from its octets and those of a trust list, if one is given.
-use Rattle.std.specs.Prelude.{◌≡◌, ◌⊎◌, ℕ, List, [], ◌∷◌, Option, Some, None, Result, Ok, Err}
+use Rattle.std.specs.Prelude.{◌⊎◌, ℕ, List, [], ◌∷◌, Option, Some, None, Result, Err}
 use Rattle.std.specs.Borrow.{Bor}
 use Rattle.key_core.specs.Verifying.{Judge}
 use Rattle.authenticode_core.specs.ListOctets.{IsTrustList, IsUnreadList}
