@@ -30,7 +30,10 @@ const TOLD: &str = "some contents of the tree pass 4294967295 octets and cannot 
 fn keys(rt: HostRuntime) -> Result<(), Fail> {
     for (element, called) in CALLED {
         let source = SOURCE;
-        let returned = format!(in rt.alloc(); "{}", KeyError::Asn1Serialization { element, source })?;
+        let returned = format!(in rt.alloc();
+            "{}",
+            KeyError::Asn1Serialization { element, source }
+        )?;
         let want = format!(in rt.alloc(); "(ASN1) couldn't serialize {called}: {TOLD}")?;
         assert_eq!(rt; returned, want);
     }
@@ -46,7 +49,10 @@ fn signatures_and_identifiers(rt: HostRuntime) -> Result<(), Fail> {
         "Key error: (ASN1) couldn't serialize rsa public key: {TOLD}"
     )?;
     assert_eq!(rt; returned, want);
-    let returned = format!(in rt.alloc(); "{}", KeyIdGenError::Asn1Serialization { element, source })?;
+    let returned = format!(in rt.alloc();
+        "{}",
+        KeyIdGenError::Asn1Serialization { element, source }
+    )?;
     let want = format!(in rt.alloc(); "(asn1) couldn't serialize rsa public key: {TOLD}")?;
     assert_eq!(rt; returned, want);
     let returned = format!(in rt.alloc(); "{}", KeyIdGenError::InvalidKey { source: unwritten })?;
