@@ -5,11 +5,11 @@ use Rattle.std.specs.Int.{w64}
 use Rattle.std.specs.Option.{MatchOption}
 use Rattle.std.specs.Result.{result_ok}
 use Rattle.std.specs.Str.Parse.{AllDigits, digits_value, ParsesSigned}
-use Rattle.std.proofs.lemmas.Str.Parse.{IsNumeralModel, digit_at, digits_value_short, numerals_by_value, parse_signed_plain, returns_digits}
+use Rattle.std.proofs.lemmas.Str.Parse.{IsNumeralModel, digit_at, digits_value_short, numerals_by_value, parse_signed_plain, tells_digits}
 use Rattle.program_frame.specs.SecondsWord.{IsSecondsWord}
 
 own : IsNumeralModel (AllDigits 10) (digits_value 10)
-own = numerals_by_value (AllDigits 10) returns_digits
+own = numerals_by_value (AllDigits 10) tells_digits
 
 -- there are 1 to 18 octets, and the first is a digit
 abbrev pub BeginsWithDigit : List ℕ → Type 0
