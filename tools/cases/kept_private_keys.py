@@ -36,7 +36,7 @@ KNOWN_ED = [contents(text) for _, text, *_ in structures.ED_ALGORITHMS]
 NULL = Primitive(5, b"")
 
 NOT_RSA = "RSA error: the key is of another kind than RSA"
-NO_CURVE = "EC error: no curve stands in the key"
+NO_CURVE = "EC error: the key names no curve"
 NO_PARAMETERS = "EC error: the parameters name no curve"
 NO_COORDINATE = "EC error: a coordinate hasn't as many octets as the field of the curve"
 SIZE = "error: the secret hasn't as many octets as its curve or algorithm asks for"

@@ -23,7 +23,7 @@ use Rattle.names_core.specs.declared.name.DirectoryName.{DirectoryName}
 use Rattle.x509_types.specs.CertificateElements.{CertificateElements}
 use Rattle.authenticode_core.specs.BagSigner.{HasNoSigner}
 use Rattle.authenticode_core.specs.CertificateBag.{IsBag}
-use Rattle.authenticode_core.specs.Inside.SigningSteps.{ReturnsName}
+use Rattle.authenticode_core.specs.Inside.SigningSteps.{ReportsName}
 use Rattle.authenticode_core.specs.SignedFields.{IsFirstSigner, signers_of}
 use Rattle.authenticode_core.specs.SigningRules.{HasNoCertificate, IsBagOf, IsNamedByKey, RefusesAuthenticodeBy}
 use Rattle.authenticode_core.specs.declared.error.AuthenticodeError.{AuthenticodeError}
@@ -66,12 +66,12 @@ same_name element lent issuer serial_number made value is holds octets returned 
 -- ---- no certificate
 
 pub returns_name : (issuer serial_number : List ℕ) (made : DirectoryName) (number : IntegerAsn1) → IsWithin (λ (element : DerElement) (m : DirectoryName). element ≡ name m.name) issuer made → integer_contents number ≡ serial_number
-    → ReturnsName issuer serial_number (errors.NoCertificatesAssociatedWithIssuerAndSerialNumber made number)
+    → ReportsName issuer serial_number (errors.NoCertificatesAssociatedWithIssuerAndSerialNumber made number)
 returns_name issuer serial_number made number within is =
     record { made = made; number = number; issuer_is = within.encoded ∙ ap encoding within.spelled; number_is = is; returned = refl }
 
 has_no_certificate : (f : SignedDataElements) (g : SignerElements) (bag : List CertificateElements) (issuer serial_number : List ℕ) (e : AuthenticodeError) → IsFirstSigner f g → IsBagOf f bag → HasNoSigner (signers_of f) bag
-    → LendsNamed g.sid issuer serial_number → ReturnsName issuer serial_number e → HasNoCertificate f g e
+    → LendsNamed g.sid issuer serial_number → ReportsName issuer serial_number e → HasNoCertificate f g e
 has_no_certificate f g bag issuer serial_number e first is none lent returns =
     let kids = lent.name ∷ Primitive 0x02 serial_number ∷ [] in
     let value = by_name g.sid kids first.value.sid (sid_is f g first) lent.is in
@@ -89,7 +89,7 @@ has_no_certificate f g bag issuer serial_number e first is none lent returns =
     }
 
 pub no_certificate : (f : SignedDataElements) (g : SignerElements) (bag : List CertificateElements) (issuer serial_number : List ℕ) (e : AuthenticodeError) → IsFirstSigner f g → IsBagOf f bag → HasNoSigner (signers_of f) bag
-    → LendsNamed g.sid issuer serial_number → ReturnsName issuer serial_number e ⊎ (e ≡ errors.Memory) → RefusesAuthenticodeBy (IsNamedByKey g ∷ HasNoCertificate f g ∷ []) e
+    → LendsNamed g.sid issuer serial_number → ReportsName issuer serial_number e ⊎ (e ≡ errors.Memory) → RefusesAuthenticodeBy (IsNamedByKey g ∷ HasNoCertificate f g ∷ []) e
 no_certificate f g bag issuer serial_number e first is none lent (inl returns) =
     let met : IsMet (IsNamedByKey g) = λ x broken. key_or_name broken.0 (lent.name ∷ Primitive 0x02 serial_number ∷ []) (sym broken.1 ∙ lent.is) in
     inl (inr (met, inl (has_no_certificate f g bag issuer serial_number e first is none lent returns)))

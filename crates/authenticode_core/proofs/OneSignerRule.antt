@@ -85,9 +85,9 @@ module _ (judge : Judge) (policy : Policy) (f : SignedDataElements) where
     path_met path false off p = λ e broken. asked_or_not policy.chain off broken.asked
 
     pub valid_and_vouched_met : (path : List ℕ) (excuse : Excuse) → IsValidAndVouched judge policy f bag signer path excuse → AreMet (valid_and_vouched_rules judge policy f)
-    valid_and_vouched_met path excuse stands =
-        let valid = validity_met judge policy f bag place signer is excuse (vouched_is_valid judge policy f bag place signer is path excuse stands) in
-        met_together (validity_rules judge policy f) (IsUnvouched judge policy f ∷ []) valid (path_met path policy.chain refl stands.path_is, tt)
+    valid_and_vouched_met path excuse vouched =
+        let valid = validity_met judge policy f bag place signer is excuse (vouched_is_valid judge policy f bag place signer is path excuse vouched) in
+        met_together (validity_rules judge policy f) (IsUnvouched judge policy f ∷ []) valid (path_met path policy.chain refl vouched.path_is, tt)
 
     -- ---- and has one report
 

@@ -25,7 +25,7 @@ use Rattle.x509_types.specs.CertificateElements.{CertificateElements}
 use Rattle.authenticode_core.specs.ContentRefusal.{of_certificates}
 use Rattle.authenticode_core.specs.Inside.Form.{AreSpelled}
 use Rattle.authenticode_core.specs.Excuses.{HasBadStamp, HasNoExcuse, HasReason}
-use Rattle.authenticode_core.specs.Inside.PolicySteps.{IsExpiry, IsUnlinkedPath, ReturnsExpiry, valid_and_vouched_rules, validity_rules}
+use Rattle.authenticode_core.specs.Inside.PolicySteps.{IsExpiry, IsUnlinkedPath, ReportsExpiry, valid_and_vouched_rules, validity_rules}
 use Rattle.authenticode_core.specs.Inside.SigningSteps.{HasSigner}
 use Rattle.authenticode_core.specs.IssuerWalk.{IsIssuerPath}
 use Rattle.authenticode_core.specs.LinkedPath.{IsPathAsked, IsUnlinkedAt, IsVouchedPath}
@@ -118,16 +118,16 @@ valid_or_expired w c valid expired = valid.lasts expired.1.2.asked expired.1.0 e
 same_cause : (a b : DirectoryName) (x y : CertCause) → cert_errors.InvalidCertificate a x ≡ cert_errors.InvalidCertificate b y → x ≡ y
 same_cause a b x y e = cc
 
-pub expired_if_returned : (w : Window) (signer : KeptCertificate) (cause : CertError) → IsOutside w signer cause → ReturnsExpiry cause → IsExpired w signer.elements
+pub expired_if_returned : (w : Window) (signer : KeptCertificate) (cause : CertError) → IsOutside w signer cause → ReportsExpiry cause → IsExpired w signer.elements
 expired_if_returned w signer cause outside returns =
     let same : outside.cause ≡ causes.CertificateExpired returns.2.0 returns.2.1 = same_cause outside.id returns.0 outside.cause returns.1 (sym outside.returned ∙ returns.3) ∙ returns.2.2 in
     returned_is_expired w signer.elements (returns.2.0, returns.2.1, subst (λ (x : CertCause). IsFirstBroken (window_rules w signer.elements) x) same outside.broken)
 
-unexpired_if_untold : (w : Window) (signer : KeptCertificate) (cause : CertError) → IsOutside w signer cause → (ReturnsExpiry cause → ⊥) → IsExpired w signer.elements → ⊥
-unexpired_if_untold w signer cause outside untold expired =
+unexpired_if_unreported : (w : Window) (signer : KeptCertificate) (cause : CertError) → IsOutside w signer cause → (ReportsExpiry cause → ⊥) → IsExpired w signer.elements → ⊥
+unexpired_if_unreported w signer cause outside unreported expired =
     let returned = expired_is_returned w signer.elements expired in
     let same : outside.cause ≡ causes.CertificateExpired returned.0 returned.1 = window_once w signer.elements outside.cause (causes.CertificateExpired returned.0 returned.1) outside.broken returned.2 in
-    untold (outside.id, outside.cause, (returned.0, returned.1, same), outside.returned)
+    unreported (outside.id, outside.cause, (returned.0, returned.1, same), outside.returned)
 
 -- the value of an option, or that it has none
 pub given : {X : Type 0} (o : Option X) (x : X) (N : Type 0) (P : X → Type 0) → o ≡ Some x → MatchOption o N P → P x
@@ -228,13 +228,13 @@ module _ (judge : Judge) (policy : Policy) (f : SignedDataElements) where
 
     -- ---- refusals
 
-    pub unbegun : (cause : CertError) → IsOutside (window_of policy) signer cause → (ReturnsExpiry cause → ⊥) → RefusesAuthenticodeBy (validity_rules judge policy f) (of_certificates cause)
-    unbegun cause outside untold = inl (inl (record {
+    pub unbegun : (cause : CertError) → IsOutside (window_of policy) signer cause → (ReportsExpiry cause → ⊥) → RefusesAuthenticodeBy (validity_rules judge policy f) (of_certificates cause)
+    unbegun cause outside unreported = inl (inl (record {
       bag = bag;
       place = place;
       signer = signer;
       is = is;
-      unexpired = unexpired_if_untold (window_of policy) signer cause outside untold;
+      unexpired = unexpired_if_unreported (window_of policy) signer cause outside unreported;
       cause = cause;
       outside = outside;
       returned = outside_returned (window_of policy) signer cause outside;
@@ -289,23 +289,23 @@ module _ (judge : Judge) (policy : Policy) (f : SignedDataElements) where
 
     -- ---- certificates that aren't valid
 
-    expired_by : (cause : CertError) → Breaks (IsOutside (window_of policy) signer) cause → ReturnsExpiry cause → IsOutside (window_of policy) signer cause
+    expired_by : (cause : CertError) → Breaks (IsOutside (window_of policy) signer) cause → ReportsExpiry cause → IsOutside (window_of policy) signer cause
     expired_by cause (inl outside) returns = outside
     expired_by cause (inr memory) returns =
         let other : cert_errors.InvalidCertificate returns.0 returns.1 ≡ cert_errors.Memory = sym returns.3 ∙ memory in
         absurd cc
 
-    pub has_expired : (cause : CertError) → Breaks (IsOutside (window_of policy) signer) cause → ReturnsExpiry cause → IsExpired (window_of policy) signer.elements
+    pub has_expired : (cause : CertError) → Breaks (IsOutside (window_of policy) signer) cause → ReportsExpiry cause → IsExpired (window_of policy) signer.elements
     has_expired cause breaks returns = expired_if_returned (window_of policy) signer cause (expired_by cause breaks returns) returns
 
-    pub unbegun_or_memory : (cause : CertError) → Breaks (IsOutside (window_of policy) signer) cause → (ReturnsExpiry cause → ⊥) → RefusesAuthenticodeBy (validity_rules judge policy f) (of_certificates cause)
-    unbegun_or_memory cause (inl outside) untold = unbegun cause outside untold
-    unbegun_or_memory cause (inr memory) untold = inr (ap of_certificates memory)
+    pub unbegun_or_memory : (cause : CertError) → Breaks (IsOutside (window_of policy) signer) cause → (ReportsExpiry cause → ⊥) → RefusesAuthenticodeBy (validity_rules judge policy f) (of_certificates cause)
+    unbegun_or_memory cause (inl outside) unreported = unbegun cause outside unreported
+    unbegun_or_memory cause (inr memory) unreported = inr (ap of_certificates memory)
 
-    pub no_excuse : (cause : CertError) → Breaks (IsOutside (window_of policy) signer) cause → ReturnsExpiry cause → HasNoExcuse f bag signer.elements → RefusesAuthenticodeBy (validity_rules judge policy f) (of_certificates cause)
+    pub no_excuse : (cause : CertError) → Breaks (IsOutside (window_of policy) signer) cause → ReportsExpiry cause → HasNoExcuse f bag signer.elements → RefusesAuthenticodeBy (validity_rules judge policy f) (of_certificates cause)
     no_excuse cause breaks returns none = unexcused cause (expired_by cause breaks returns) (has_expired cause breaks returns) none
 
-    pub stamped_or_memory : (cause : CertError) (e : AuthenticodeError) → Breaks (IsOutside (window_of policy) signer) cause → ReturnsExpiry cause → HasBadStamp judge policy f bag signer.elements e ⊎ (e ≡ errors.Memory)
+    pub stamped_or_memory : (cause : CertError) (e : AuthenticodeError) → Breaks (IsOutside (window_of policy) signer) cause → ReportsExpiry cause → HasBadStamp judge policy f bag signer.elements e ⊎ (e ≡ errors.Memory)
         → RefusesAuthenticodeBy (validity_rules judge policy f) e
     stamped_or_memory cause e breaks returns (inl stamp) = badly_stamped e (has_expired cause breaks returns) stamp
     stamped_or_memory cause e breaks returns (inr memory) = inr memory
@@ -345,13 +345,13 @@ kept_signer f place c signer s same = record { is_bag = s.1; is_signer = subst (
 
 -- ---- whether expiry is reported
 
-pub returns_so : (e : CertError) (id : DirectoryName) (cause : CertCause) (t : Bool) → e ≡ cert_errors.InvalidCertificate id cause → (IsTrue t ↔ IsExpiry cause) → IsTrue t ↔ ReturnsExpiry e
+pub returns_so : (e : CertError) (id : DirectoryName) (cause : CertCause) (t : Bool) → e ≡ cert_errors.InvalidCertificate id cause → (IsTrue t ↔ IsExpiry cause) → IsTrue t ↔ ReportsExpiry e
 returns_so e id cause t is test = (
   λ on. (id, cause, test.0 on, is),
   λ returns. test.1 (subst IsExpiry (same_cause returns.0 id returns.1 cause (sym returns.3 ∙ is)) returns.2),
 )
 
-pub returns_not : (e : CertError) → ((id : DirectoryName) (cause : CertCause) → e ≡ cert_errors.InvalidCertificate id cause → ⊥) → IsTrue false ↔ ReturnsExpiry e
+pub returns_not : (e : CertError) → ((id : DirectoryName) (cause : CertCause) → e ≡ cert_errors.InvalidCertificate id cause → ⊥) → IsTrue false ↔ ReportsExpiry e
 returns_not e none = (λ on. absurd cc, λ returns. absurd (none returns.0 returns.1 returns.3))
 
 -- ---- with and without the chain

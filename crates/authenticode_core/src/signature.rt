@@ -11,7 +11,7 @@ ghost use Rattle.key_types.specs.PublicKeyInfo.{inner_key};
 ghost use Rattle.key_core.specs.Keys.{info_of};
 ghost use Rattle.x509_core.specs.Link.{HasKey};
 ghost use Rattle.x509_types.specs.CertificateView.{view_elements};
-ghost use Rattle.authenticode_core.specs.Inside.SigningSteps.{IsBoundBy, NamesSigner, ReturnsName, digest_rules};
+ghost use Rattle.authenticode_core.specs.Inside.SigningSteps.{IsBoundBy, NamesSigner, ReportsName, digest_rules};
 ghost use Rattle.authenticode_core.specs.SignedFields.{IndirectData, IsFirstSigner, indirect_kids};
 ghost use Rattle.authenticode_core.specs.SigningRules.{HasNoCertificate, HasUnknownDigest, IsNamedByKey, IsRefusedUnder, IsSigned, HasSignatureBy, NamesDigest, RefusesAuthenticodeBy, digested_octets, signing_rules};
 ghost use Rattle.authenticode_core.specs.declared.error.AuthenticodeError.TheVariants as errors;
@@ -88,7 +88,7 @@ pub(crate) fn expect_certificate<'a>(
 /// The error that no certificate has this issuer, given as octets, and this serial number, given as
 /// contents octets.
 fn no_certificate(alloc: Global, issuer: &[u8], serial_number: &[u8]) -> AuthenticodeError
-    ensures { OrMemory errors.Memory (ReturnsName issuer.now serial_number.now) result }
+    ensures { OrMemory errors.Memory (ReportsName issuer.now serial_number.now) result }
 {
     let Ok(issuer) = DirectoryName::from_der(alloc, issuer) else {
         return AuthenticodeError::Memory;

@@ -12,7 +12,7 @@ ghost use Rattle.x509_core.specs.declared.error.CertError.TheVariants as cert_er
 ghost use Rattle.x509_types.specs.CertificateElements.{CertificateElements};
 ghost use Rattle.x509_types.specs.CertificateView.{view_elements};
 ghost use Rattle.authenticode_core.specs.Inside.Form.{AreSpelled};
-ghost use Rattle.authenticode_core.specs.Inside.PolicySteps.{IsExpiry, IsUnlinkedPath, ReturnsExpiry, valid_and_vouched_rules, validity_rules};
+ghost use Rattle.authenticode_core.specs.Inside.PolicySteps.{IsExpiry, IsUnlinkedPath, ReportsExpiry, valid_and_vouched_rules, validity_rules};
 ghost use Rattle.authenticode_core.specs.Inside.SigningSteps.{HasSigner, HasSignerAt};
 ghost use Rattle.authenticode_core.specs.LinkedPath.{IsPathAsked};
 ghost use Rattle.authenticode_core.specs.Policy.{window_of};
@@ -216,7 +216,7 @@ fn expect_excuse<S: Scheme>(
         (RefusesAuthenticodeBy
         (validity_rules (S.judge scheme.now) policy.entry.now (data_elements signed_data.now))) }
 {
-    if !returns_expiry(&error) {
+    if !reports_expiry(&error) {
         return Err(AuthenticodeError::from(error));
     }
     match excuse_of(alloc, signed_data, signer, policy, scheme)? {
@@ -226,8 +226,8 @@ fn expect_excuse<S: Scheme>(
 }
 
 /// Whether an error reports an expired certificate.
-fn returns_expiry(error: &CertError) -> bool
-    ensures { IsTrue result ↔ ReturnsExpiry error.now }
+fn reports_expiry(error: &CertError) -> bool
+    ensures { IsTrue result ↔ ReportsExpiry error.now }
 {
     match error {
         CertError::InvalidCertificate { source, .. } => is_expiry(source),

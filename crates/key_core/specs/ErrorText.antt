@@ -31,7 +31,7 @@ context_text contexts.NotRsa = codes "the key is of another kind than RSA"
 context_text contexts.NotEc = codes "the key is of another kind than one of an elliptic curve"
 context_text contexts.NotEd = codes "the key is of another kind than one of a curve 25519 or 448"
 context_text contexts.CurveParameters = codes "the parameters name no curve"
-context_text contexts.CurveMissing = codes "no curve stands in the key"
+context_text contexts.CurveMissing = codes "the key names no curve"
 context_text contexts.CoordinateSize =
     codes "a coordinate hasn't as many octets as the field of the curve"
 context_text contexts.SecretSize =

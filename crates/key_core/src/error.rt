@@ -104,7 +104,7 @@ impl KeyContext {
             KeyContext::NotEc => "the key is of another kind than one of an elliptic curve",
             KeyContext::NotEd => "the key is of another kind than one of a curve 25519 or 448",
             KeyContext::CurveParameters => "the parameters name no curve",
-            KeyContext::CurveMissing => "no curve stands in the key",
+            KeyContext::CurveMissing => "the key names no curve",
             KeyContext::CoordinateSize => {
                 "a coordinate hasn't as many octets as the field of the curve"
             }

@@ -20,7 +20,7 @@ use Rattle.names_core.specs.Names.{name_of_sets}
 use Rattle.names_core.specs.declared.name.DirectoryName.{DirectoryName}
 use Rattle.x509_types.specs.CertificateElements.{CertificateElements}
 use Rattle.x509_core.specs.KeptCertificate.{KeptCertificate}
-use Rattle.x509_core.specs.Link.{IsReturnedOf, IsNoAuthority, IsTooDeep, IsNoParent, IsUnsupported, IsBadlySignedLink, signed_octets, link_rules}
+use Rattle.x509_core.specs.Link.{IsReportedOf, IsNoAuthority, IsTooDeep, IsNoParent, IsUnsupported, IsBadlySignedLink, signed_octets, link_rules}
 use Rattle.x509_core.specs.Parent.{IsNameOf, LacksKey, DifferByKey, DifferByName, RefusesChain, RefusesLink, RefusesParent}
 use Rattle.x509_core.specs.Window.{IsTimeAt, IsNotYetValid, IsOver, window_rules}
 use Rattle.x509_core.specs.declared.error.CaChainError.{CaChainError}
@@ -64,7 +64,7 @@ same_name a b e = ap name_of_sets e
 one_name : (kept : KeptCertificate) (a b : DirectoryName) → IsNameOf kept a → IsNameOf kept b → a ≡ b
 one_name kept a b p q = same_name a b (p ∙ sym q)
 
-pub returned_once : (kept : KeptCertificate) (rule : Rule CertCause) → IsReturnedOnce rule → IsReturnedOnce (IsReturnedOf kept rule)
+pub returned_once : (kept : KeptCertificate) (rule : Rule CertCause) → IsReturnedOnce rule → IsReturnedOnce (IsReportedOf kept rule)
 returned_once kept rule one = λ a b p q.
     p.returned ∙ ap (λ (id : DirectoryName). errors.InvalidCertificate id p.cause) (one_name kept p.id q.id p.name q.name) ∙ ap (errors.InvalidCertificate q.id) (one p.cause q.cause p.broken q.broken) ∙ sym q.returned
 

@@ -25,7 +25,7 @@ use Rattle.x509_types.specs.CertificateElements.{CertificateElements}
 use Rattle.x509_types.specs.CertificateFields.{key_octets_of}
 use Rattle.x509_core.specs.Facts.LentKeys.{lent_key}
 use Rattle.x509_core.specs.KeptCertificate.{KeptCertificate}
-use Rattle.x509_core.specs.Link.{HasAlgorithm, HasKey, IsSignedWith, IsSignedBy, IsBadlySignedLink, IsUnsupported, IsReturnedOf, signed_octets, signature_refusal, link_signature_rules}
+use Rattle.x509_core.specs.Link.{HasAlgorithm, HasKey, IsSignedWith, IsSignedBy, IsBadlySignedLink, IsUnsupported, IsReportedOf, signed_octets, signature_refusal, link_signature_rules}
 use Rattle.x509_core.specs.Parent.{IsInvalid}
 use Rattle.x509_core.specs.Rules.{Breaks, RefusesCertBy}
 use Rattle.x509_core.specs.declared.error.CertCause.{CertCause}
@@ -48,7 +48,7 @@ pub one_key : (f : CertificateElements) (a b : SubjectPublicKeyInfo) → HasKey 
 one_key f a b p q = infos_once a b (sym p ∙ q)
 
 -- a certificate is reported for a cause, unless memory runs out
-pub returned_of : (kept : KeptCertificate) (rule : Rule CertCause) (cause : CertCause) (e : CertError) → rule cause → IsInvalid kept cause e → Breaks (IsReturnedOf kept rule) e
+pub returned_of : (kept : KeptCertificate) (rule : Rule CertCause) (cause : CertCause) (e : CertError) → rule cause → IsInvalid kept cause e → Breaks (IsReportedOf kept rule) e
 returned_of kept rule cause (errors.InvalidCertificate id source) broken is = inl (record { cause = cause; id = id; broken = broken; name = is.0; returned = ap (errors.InvalidCertificate id) is.1 })
 returned_of kept rule cause errors.Memory broken is = inr refl
 returned_of kept rule cause e broken is = absurd is
@@ -101,7 +101,7 @@ signed_by judge parent child algorithm info msg sig parts message signature acce
 pub badly_signed : (judge : Judge) (parent child : KeptCertificate) (algorithm : SignatureAlgorithm) (info : SubjectPublicKeyInfo) (msg sig : List ℕ) (source : SignatureError) (e : CertError)
     → IsSignedWith parent.elements child.elements algorithm info → msg ≡ signed_octets child.elements → sig ≡ child.elements.signature
     → RefusesSignatureBy (verify_rules judge algorithm info msg sig) source → (source ≡ signature_errors.Memory → e ≡ errors.Memory) → IsInvalid child (causes.Signature source) e
-    → Breaks (IsReturnedOf child (IsBadlySignedLink judge parent.elements child.elements)) e
+    → Breaks (IsReportedOf child (IsBadlySignedLink judge parent.elements child.elements)) e
 badly_signed judge parent child algorithm info msg sig source e parts message signature (inr none) memory returned = inr (memory none)
 badly_signed judge parent child algorithm info msg sig source e parts message signature (inl broken) memory returned =
     returned_of child (IsBadlySignedLink judge parent.elements child.elements) (causes.Signature source) e (record {
@@ -115,7 +115,7 @@ badly_signed judge parent child algorithm info msg sig source e parts message si
     }) returned
 
 pub accepted_or_not : {X : Type 0} (judge : Judge) (parent child : KeptCertificate) (algorithm : SignatureAlgorithm) (r : Result X CertError) → NamesSignature child.certificate.signature_algorithm algorithm
-    → MatchResult r (λ _. IsSignedBy judge parent.elements child.elements) (Breaks (IsReturnedOf child (IsBadlySignedLink judge parent.elements child.elements)))
+    → MatchResult r (λ _. IsSignedBy judge parent.elements child.elements) (Breaks (IsReportedOf child (IsBadlySignedLink judge parent.elements child.elements)))
     → MatchResult r (λ _. IsSignedBy judge parent.elements child.elements) (RefusesCertBy (link_signature_rules judge parent child))
 accepted_or_not judge parent child algorithm (Ok v) named signed = signed
 accepted_or_not judge parent child algorithm (Err e) named (inl broken) = inl (inr (supported child algorithm named, inl broken))

@@ -76,7 +76,7 @@ pub record IsLink (judge : Judge) (w : Window) (number : ℕ)
 -- ---- rules, by what breaks them
 
 -- the error reports this certificate, by the name of its subject, for a cause that breaks the rule
-pub record IsReturnedOf (kept : KeptCertificate) (rule : Rule CertCause) (e : CertError) : Type 0 where
+pub record IsReportedOf (kept : KeptCertificate) (rule : Rule CertCause) (e : CertError) : Type 0 where
   pub cause : CertCause
   pub id : DirectoryName
   pub broken : rule cause
@@ -101,7 +101,7 @@ pub record IsTooDeep (number : ℕ) (parent : KeptCertificate) (e : CertError) :
 
 -- the certificate isn't valid
 abbrev pub IsOutside : Window → KeptCertificate → Rule CertError
-IsOutside w kept = IsReturnedOf kept (IsFirstBroken (window_rules w kept.elements))
+IsOutside w kept = IsReportedOf kept (IsFirstBroken (window_rules w kept.elements))
 
 -- names or key identifiers don't agree
 abbrev pub IsNoParent : (parent child : KeptCertificate) → Rule CertError
@@ -135,7 +135,7 @@ pub record IsBadlySignedLink (judge : Judge) (parent child : CertificateElements
 abbrev pub link_signature_rules : Judge → (parent child : KeptCertificate) → List (Rule CertError)
 link_signature_rules judge parent child =
     IsUnsupported child ∷
-    IsReturnedOf child (IsBadlySignedLink judge parent.elements child.elements) ∷ []
+    IsReportedOf child (IsBadlySignedLink judge parent.elements child.elements) ∷ []
 
 -- The rules of a link, in their order.
 abbrev pub link_rules : Judge → Window → ℕ → (parent child : KeptCertificate)

@@ -4,7 +4,7 @@ ghost use Rattle.std.specs.Prelude.{◌≡◌, ◌↔◌, ◌<◌, ℕ, true, Is
 ghost use Rattle.key_core.specs.SignatureAlgorithm.{NamesSignature};
 ghost use Rattle.key_core.specs.declared.signature_error.SignatureError.TheVariants as signature_errors;
 ghost use Rattle.x509_types.specs.ExtensionParts.{HasCa, HasPathLength};
-ghost use Rattle.x509_core.specs.Link.{IsBadlySignedLink, IsDeepEnough, IsLink, IsNoAuthority, IsOutside, IsSignedBy, IsCountFor, IsTooDeep, IsReturnedOf, link_rules, link_signature_rules, signature_refusal};
+ghost use Rattle.x509_core.specs.Link.{IsBadlySignedLink, IsDeepEnough, IsLink, IsNoAuthority, IsOutside, IsSignedBy, IsCountFor, IsTooDeep, IsReportedOf, link_rules, link_signature_rules, signature_refusal};
 ghost use Rattle.x509_core.specs.Parent.{IsInvalid};
 ghost use Rattle.x509_core.specs.Rules.{Breaks, RefusesCertBy};
 ghost use Rattle.x509_core.specs.Window.{IsWithinWindow};
@@ -202,7 +202,7 @@ impl ViewedCert<'_> {
         ensures { MatchResult result
             (λ _. IsSignedBy (S.judge scheme.now) parent.now.cert.now.elements
             self.now.cert.now.elements)
-            (Breaks (IsReturnedOf self.now.cert.now (IsBadlySignedLink (S.judge scheme.now)
+            (Breaks (IsReportedOf self.now.cert.now (IsBadlySignedLink (S.judge scheme.now)
             parent.now.cert.now.elements self.now.cert.now.elements))) }
     {
         match algorithm.verify_by(

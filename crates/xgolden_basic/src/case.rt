@@ -53,14 +53,14 @@ fn table_of(alloc: Global, word: &str) -> Result<VerdictTable> {
 
 /// The line for the result for a file in a case.
 pub fn answer(alloc: Global, case: &Case, file: &[u8]) -> Result<String> {
-    returned(
+    line_of(
         alloc,
         &check_wincert(alloc, file, &case.policy, &case.table),
     )
 }
 
 /// The line for a result.
-fn returned(alloc: Global, answer: &Result<Accepted, CheckError>) -> Result<String> {
+fn line_of(alloc: Global, answer: &Result<Accepted, CheckError>) -> Result<String> {
     match answer {
         Ok(accepted) => accepted_line(alloc, accepted),
         Err(error) => refused_line(alloc, error),

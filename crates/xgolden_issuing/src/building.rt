@@ -1,7 +1,7 @@
 //! Building certificates.
 
+use crate::printing::{print_name, print_refused};
 use crate::settings::{Setting, settings_of};
-use crate::telling::{print_name, print_refused};
 use crate::words::key_of;
 use anyhow::{Result, bail};
 use der_core::DerError;

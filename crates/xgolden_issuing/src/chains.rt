@@ -1,6 +1,6 @@
 //! Validating certificates with their parents.
 
-use crate::telling::print_refused;
+use crate::printing::print_refused;
 use crate::words::{certificate_of, date_of, two_of};
 use anyhow::{Context, Result, bail};
 use names_core::UtcDate;

@@ -29,9 +29,9 @@
 mod building;
 mod chains;
 mod measure;
+mod printing;
 mod requests;
 mod settings;
-mod telling;
 mod words;
 
 use anyhow::{Context, Result, bail};

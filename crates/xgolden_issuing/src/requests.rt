@@ -1,6 +1,6 @@
 //! Requests that are read, verified and generated.
 
-use crate::telling::{print_name, print_returned};
+use crate::printing::{print_error, print_name};
 use crate::words::{algorithm_of, attributes_of, key_of, name_of};
 use anyhow::{Result, bail};
 use der_core::{DerError, Structure};
@@ -24,7 +24,7 @@ pub fn print<S: Scheme>(alloc: Global, octets: &str, scheme: &S, line: &mut Line
 fn print_request<S: Scheme>(alloc: Global, octets: &[u8], scheme: &S, line: &mut Line) {
     match Csr::from_der(alloc, octets) {
         Ok(csr) => print_read(alloc, &csr, octets, scheme, line),
-        Err(error) => print_returned(error, line),
+        Err(error) => print_error(error, line),
     }
 }
 
@@ -60,7 +60,7 @@ fn has_subject(alloc: Global, csr: &Csr) -> Result<bool, AllocError> {
 fn print_verdict<S: Scheme>(alloc: Global, csr: &Csr, scheme: &S, line: &mut Line) {
     match csr.verify(alloc, scheme) {
         Ok(()) => line.word("accepted"),
-        Err(error) => print_returned(error, line),
+        Err(error) => print_error(error, line),
     }
 }
 
@@ -112,7 +112,7 @@ fn print_with<S: Scheme>(
 fn print_made<S: Scheme>(alloc: Global, made: Result<Csr, CsrError>, scheme: &S, line: &mut Line) {
     match made {
         Ok(csr) => print_generated(alloc, &csr, scheme, line),
-        Err(error) => print_returned(error, line),
+        Err(error) => print_error(error, line),
     }
 }
 

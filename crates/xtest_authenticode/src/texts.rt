@@ -32,7 +32,7 @@ fn has_digests(answer: &Result<Accepted, CheckError>, hash: &[u8]) -> bool {
 }
 
 /// Whether the result is a mismatch with these digests, as values and as text.
-fn is_returned(alloc: Global, answer: &Result<Accepted, CheckError>, hash: &[u8]) -> bool {
+fn is_this_mismatch(alloc: Global, answer: &Result<Accepted, CheckError>, hash: &[u8]) -> bool {
     match text_of(alloc, answer) {
         Ok(text) => text.as_str() == MISMATCH && has_digests(answer, hash),
         Err(_) => false,
@@ -44,7 +44,7 @@ fn is_mismatch(alloc: Global, file: &[u8], hash: &[u8]) -> Result<bool, Fail> {
     let table = table(alloc, &[])?;
     let policy = basic_policy(alloc, &ASKED)?;
     let answer = check_wincert(alloc, file, &policy, &table);
-    Ok(is_returned(alloc, &answer, hash))
+    Ok(is_this_mismatch(alloc, &answer, hash))
 }
 
 /// A mismatch reports both digests, as values and as text.

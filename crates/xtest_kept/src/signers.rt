@@ -7,7 +7,7 @@ use std::test::Fail;
 use x509_core::Cert;
 
 /// Whether octets are a signature over the digest, by its only certificate.
-fn is_returned(alloc: Global, octets: &[u8], hash: &[u8]) -> bool {
+fn is_signature_over(alloc: Global, octets: &[u8], hash: &[u8]) -> bool {
     match signature(alloc, octets) {
         Some(signature) => signs(alloc, &signature, hash) && is_by_its_own(alloc, &signature),
         None => false,
@@ -57,6 +57,6 @@ fn is_the_one(signer: &Cert, certificates: &[Cert]) -> bool {
 fn the_signer_and_the_digest(rt: HostRuntime) -> Result<(), Fail> {
     let octets = hex::decode(rt.alloc(), SIGNATURE)?;
     let hash = hex::decode(rt.alloc(), FILE_HASH)?;
-    assert!(rt; is_returned(rt.alloc(), &octets, &hash));
+    assert!(rt; is_signature_over(rt.alloc(), &octets, &hash));
     Ok(())
 }

@@ -36,11 +36,15 @@ fn outcome_of(
 ) -> Outcome {
     let before = counts(alloc, signature);
     let answer = stamped(alloc, signature, token);
-    let as_returned = match answer {
+    let is_consistent = match answer {
         Outcome::Stamped => before == (1, 0) && counts(alloc, signature) == (2, 1),
         _ => is_spelled(alloc, signature, octets),
     };
-    if as_returned { answer } else { Outcome::Other }
+    if is_consistent {
+        answer
+    } else {
+        Outcome::Other
+    }
 }
 
 /// The number of certificates of a signature, and of its counter-signatures; 9 if there is none.

@@ -33,7 +33,7 @@ fn public_key(alloc: Global, octets: &str) -> Result<PublicKey, Fail> {
 }
 
 /// Whether this is the text of the result for a signature.
-fn is_returned<S: Scheme>(
+fn has_text<S: Scheme>(
     alloc: Global,
     hash: HashAlgorithm,
     key: &PublicKey,
@@ -71,18 +71,18 @@ const ROWS: [Row; 7] = [
 ];
 
 /// Whether the result for a case is the expected one.
-fn is_as_returned(alloc: Global, row: Row, rows: &ThreeRows) -> Result<bool, Fail> {
+fn is_as_expected(alloc: Global, row: Row, rows: &ThreeRows) -> Result<bool, Fail> {
     let (hash, key, message, signature, want, _why) = row;
     let key = public_key(alloc, key)?;
     let signed = (message.as_bytes(), signature.as_bytes());
-    is_returned(alloc, hash, &key, signed, rows, want)
+    has_text(alloc, hash, &key, signed, rows, want)
 }
 
 #[test]
 fn verdicts(rt: HostRuntime) -> Result<(), Fail> {
     let rows = rows(rt.alloc())?;
     for row in ROWS {
-        let returned = is_as_returned(rt.alloc(), row, &rows)?;
+        let returned = is_as_expected(rt.alloc(), row, &rows)?;
         assert!(rt; returned, "{}", row.5);
     }
     Ok(())

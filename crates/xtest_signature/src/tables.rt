@@ -89,7 +89,7 @@ fn ten_rows(alloc: Global, verdicts: &[&str], spoiled: usize) -> Result<String, 
 }
 
 /// Whether each spoiled line is reported by its number, of these.
-fn returns_each_bad_line(
+fn reports_each_bad_line(
     alloc: Global,
     verdicts: &[&str],
     numbers: &[u64; 10],
@@ -107,8 +107,8 @@ fn returns_each_bad_line(
 #[test]
 fn bad_lines_of_ten(rt: HostRuntime) -> Result<(), Fail> {
     let words = &["accept ", "reject ", "malformed "];
-    assert!(rt; returns_each_bad_line(rt.alloc(), &[], &[1, 2, 3, 4, 5, 6, 7, 8, 9, 10])?);
-    assert!(rt; returns_each_bad_line(rt.alloc(), words, &[2, 3, 4, 5, 6, 7, 8, 9, 10, 11])?);
+    assert!(rt; reports_each_bad_line(rt.alloc(), &[], &[1, 2, 3, 4, 5, 6, 7, 8, 9, 10])?);
+    assert!(rt; reports_each_bad_line(rt.alloc(), words, &[2, 3, 4, 5, 6, 7, 8, 9, 10, 11])?);
     Ok(())
 }
 

@@ -24,7 +24,7 @@ const CALLED: [(Element, &str); 11] = [
 /// Contents that are too long, as an error and as it prints.
 const SOURCE: DerError = DerError::TooLong;
 
-const TOLD: &str = "some contents of the tree pass 4294967295 octets and cannot be written";
+const TEXT: &str = "some contents of the tree pass 4294967295 octets and cannot be written";
 
 #[test]
 fn keys(rt: HostRuntime) -> Result<(), Fail> {
@@ -34,7 +34,7 @@ fn keys(rt: HostRuntime) -> Result<(), Fail> {
             "{}",
             KeyError::Asn1Serialization { element, source }
         )?;
-        let want = format!(in rt.alloc(); "(ASN1) couldn't serialize {called}: {TOLD}")?;
+        let want = format!(in rt.alloc(); "(ASN1) couldn't serialize {called}: {TEXT}")?;
         assert_eq!(rt; returned, want);
     }
     Ok(())
@@ -46,18 +46,18 @@ fn signatures_and_identifiers(rt: HostRuntime) -> Result<(), Fail> {
     let unwritten = KeyError::Asn1Serialization { element, source };
     let returned = format!(in rt.alloc(); "{}", SignatureError::Key { source: unwritten })?;
     let want = format!(in rt.alloc();
-        "Key error: (ASN1) couldn't serialize rsa public key: {TOLD}"
+        "Key error: (ASN1) couldn't serialize rsa public key: {TEXT}"
     )?;
     assert_eq!(rt; returned, want);
     let returned = format!(in rt.alloc();
         "{}",
         KeyIdGenError::Asn1Serialization { element, source }
     )?;
-    let want = format!(in rt.alloc(); "(asn1) couldn't serialize rsa public key: {TOLD}")?;
+    let want = format!(in rt.alloc(); "(asn1) couldn't serialize rsa public key: {TEXT}")?;
     assert_eq!(rt; returned, want);
     let returned = format!(in rt.alloc(); "{}", KeyIdGenError::InvalidKey { source: unwritten })?;
     let want = format!(in rt.alloc();
-        "invalid key: (ASN1) couldn't serialize rsa public key: {TOLD}"
+        "invalid key: (ASN1) couldn't serialize rsa public key: {TEXT}"
     )?;
     assert_eq!(rt; returned, want);
     Ok(())

@@ -31,9 +31,9 @@ IsVouchedAt judge file_hash f place =
 
 -- if basic validation is checked, its index is reported; else none is
 abbrev pub IsPlaceAsked : Bool → Judge → Option (List ℕ) → SignedDataElements → Option ℕ → Type 0
-IsPlaceAsked true judge file_hash f returned =
-    (place : ℕ) × IsVouchedAt judge file_hash f place × (returned ≡ Some place)
-IsPlaceAsked false judge file_hash f returned = returned ≡ None
+IsPlaceAsked true judge file_hash f known =
+    (place : ℕ) × IsVouchedAt judge file_hash f place × (known ≡ Some place)
+IsPlaceAsked false judge file_hash f known = known ≡ None
 
 -- if the signer's certificate is checked, it is vouched for; else its index is reported, if it is
 -- known, with no path and no excuse
@@ -58,8 +58,8 @@ IsExpiry cause =
     × (cause ≡ causes.CertificateExpired not_after now)
 
 -- the error reports a certificate that has expired
-abbrev pub ReturnsExpiry : CertError → Type 0
-ReturnsExpiry e =
+abbrev pub ReportsExpiry : CertError → Type 0
+ReportsExpiry e =
     (id : DirectoryName) × (cause : CertCause) × IsExpiry cause
     × (e ≡ cert_errors.InvalidCertificate id cause)
 

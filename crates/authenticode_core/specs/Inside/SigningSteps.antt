@@ -42,7 +42,7 @@ pub record NamesSigner (f : SignedDataElements) (named : Named) : Type 0 where
       ↔ AsksForPurposes has.0 (view_elements named.certificate.certificate)
 
 -- The error reports this issuer, given as octets, and this serial number, given as contents octets.
-pub record ReturnsName (issuer serial_number : List ℕ) (e : AuthenticodeError) : Type 0 where
+pub record ReportsName (issuer serial_number : List ℕ) (e : AuthenticodeError) : Type 0 where
   pub made : DirectoryName
   pub number : IntegerAsn1
   pub issuer_is : issuer ≡ encoding (name (sets_of made))

@@ -52,7 +52,7 @@ impl SignatureAlgorithm {
         ensures refused { RefusesKey self public_key.now.info result }
     {
         let verdict = self.verdict(alloc, public_key, msg, signature, scheme)?;
-        self.returned(verdict)
+        self.result_of(verdict)
     }
 
     /// Like `verify`, for a caller that has the encoding of an RSA key, which `to_pkcs1` returns:
@@ -73,7 +73,7 @@ impl SignatureAlgorithm {
         ensures refused { RefusesKey self public_key.now.info result }
     {
         let verdict = self.verdict_by(alloc, public_key, octets, msg, signature, scheme)?;
-        self.returned(verdict)
+        self.result_of(verdict)
     }
 
     /// The verdict of the scheme if the key, whose encoding is borrowed, fits the algorithm.
@@ -129,7 +129,7 @@ impl SignatureAlgorithm {
     }
 
     /// A verdict as a result.
-    fn returned(self, verdict: Verdict) -> Result<(), SignatureError>
+    fn result_of(self, verdict: Verdict) -> Result<(), SignatureError>
         ensures { (judge : Judge) (info : SubjectPublicKeyInfo) (msg sig : List ℕ)
             → IsJudged judge self info msg sig verdict
             → IsVerified judge self info msg sig result }

@@ -76,8 +76,8 @@ certificates_spelled c der =
       spelled = record { tbs = tbs.spelled; algorithm = refl; signature = refl };
     }
 
-certificates_returned : (a b : Certificate) → value_kinds a.tbs_certificate.extensions ≡ value_kinds b.tbs_certificate.extensions → certificate a ≡ certificate b → a ≡ b
-certificates_returned a b kinds e =
+certificates_determined : (a b : Certificate) → value_kinds a.tbs_certificate.extensions ≡ value_kinds b.tbs_certificate.extensions → certificate a ≡ certificate b → a ≡ b
+certificates_determined a b kinds e =
     let same = same_three (tbs_certificate a.tbs_certificate)
     (algorithm_identifier a.signature_algorithm) (bit_string a.signature_value)
     (tbs_certificate b.tbs_certificate) (algorithm_identifier b.signature_algorithm)
@@ -110,4 +110,4 @@ fields_of c = row (tbs_certificate c.tbs_certificate ∷ algorithm_identifier c.
 pub certificates_by_octets : (a b : Certificate) → certificate_octets a ≡ certificate_octets b → a ≡ b
 certificates_by_octets a b e =
     let parts = kinds_and_octets a.tbs_certificate.extensions b.tbs_certificate.extensions (fields_of a) (fields_of b) e in
-    certificates_returned a b parts.0 (formed_encoding_once (certificate a) (certificate b) (certificates_formed a) (certificates_formed b) parts.1)
+    certificates_determined a b parts.0 (formed_encoding_once (certificate a) (certificate b) (certificates_formed a) (certificates_formed b) parts.1)

@@ -1,7 +1,7 @@
 use Rattle.std.proofs.Common.{inl, subst}
 use Rattle.key_core.specs.Verifying.{IsJudged}
 use Rattle.key_core.proofs.Verifications.{malformed_is_broken}
-use Rattle.key_core.proofs.signature_algorithm.SignatureAlgorithm.returned.Goals as goal
+use Rattle.key_core.proofs.signature_algorithm.SignatureAlgorithm.result_of.Goals as goal
 
 pub returns-in-Malformed : goal.returns-in-Malformed
 returns-in-Malformed c = λ judge info msg sig judged.

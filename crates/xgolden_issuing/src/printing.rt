@@ -26,6 +26,6 @@ pub fn print_refused(alloc: Global, error: &CertError, line: &mut Line) {
 }
 
 /// Prints the text of an error, which is dropped only here.
-pub fn print_returned(error: CsrError, line: &mut Line) {
+pub fn print_error(error: CsrError, line: &mut Line) {
     line.shown(&error);
 }
