@@ -2,7 +2,7 @@
 
 use crate::asked::{Asked, asked_of, policy_of};
 use crate::kept::kept_line;
-use crate::line::{line_of, unread_line};
+use crate::line::{answer_line, unread_line};
 use crate::lists::list_octets;
 use anyhow::{Result, bail};
 use authenticode_core::{CertificateTrustList, Policy, check_wincert};
@@ -83,7 +83,7 @@ fn file_line(
     policy: &Policy<'_>,
     table: &VerdictTable,
 ) -> Result<String> {
-    line_of(alloc, &check_wincert(alloc, file, policy, table))
+    answer_line(alloc, &check_wincert(alloc, file, policy, table))
 }
 
 /// A copy of a file with another octet at the offset that a change names.

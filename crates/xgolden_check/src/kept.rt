@@ -1,6 +1,6 @@
 //! The same check on the owned signature of a file.
 
-use crate::line::line_of;
+use crate::line::answer_line;
 use anyhow::Result;
 use authenticode_core::{Accepted, CertificateTrustList, CheckError, DateCheck, Policy};
 use authenticode_signature::{AuthenticodeSignature, AuthenticodeValidator};
@@ -31,7 +31,7 @@ fn line_of(
     table: &VerdictTable,
 ) -> Result<String> {
     let hash = copy_of(alloc, &policy.file_hash)?;
-    line_of(alloc, &verified(alloc, signature, policy, hash, table))
+    answer_line(alloc, &verified(alloc, signature, policy, hash, table))
 }
 
 fn signature_in(alloc: Global, file: &[u8]) -> Option<AuthenticodeSignature> {

@@ -5,7 +5,7 @@ use authenticode_core::{Accepted, AuthenticodeError, CheckError, CtlError};
 use std::alloc::Global;
 
 /// The line for a result.
-pub fn line_of(alloc: Global, answer: &Result<Accepted, CheckError>) -> Result<String> {
+pub fn answer_line(alloc: Global, answer: &Result<Accepted, CheckError>) -> Result<String> {
     match answer {
         Ok(accepted) => accepted_line(alloc, accepted),
         Err(error) => refused_line(alloc, error),
