@@ -9,8 +9,8 @@ use Rattle.sig_core.specs.Digest.{digest_of}
 use Rattle.sig_core.specs.declared.hash.HashAlgorithm.{HashAlgorithm}
 use Rattle.pe_core.specs.Bound.{bound_octets, table_of}
 
--- The certificate table begins with signed data whose content is indirect data of this digest
--- algorithm, and of this digest of a file.
+-- The certificate table begins with signed data whose content is indirect data with this digest
+-- algorithm and this digest of a file.
 pub record StatesDigest (table : List ℕ) (algorithm : HashAlgorithm)
     (digest : List ℕ) : Type 0 where
   pub f : SignedDataElements

@@ -11,3 +11,4 @@ mod hashing;
 pub use check::check_pe;
 pub use error::PeCheckError;
 pub use hashing::image_hash;
+pub use pe_core::{PeError, PeImage};

@@ -29,7 +29,7 @@ with_line : (e f : CheckError) (result : Result Report Stop) → refused_line e 
 with_line e f (Ok report) same h other = record { reportable = other; status = h.status; line = h.line ∙ same }
 with_line e f (Err s) same h other = h
 
--- the same answer with the list at another place
+-- the same answer with the list elsewhere in memory
 module _ (judge : Judge) (hash : List ℕ) (date : GeneralizedTime) (options : CheckOptions) (octets : List ℕ) where
   moved : (a b : Bor CertificateTrustList) → a.now ≡ b.now → (answer : Answer) → IsSignatureAnswer judge (check_policy hash date options (Some a)) octets answer
       → IsSignatureAnswer judge (check_policy hash date options (Some b)) octets answer

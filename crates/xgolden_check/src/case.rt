@@ -94,7 +94,7 @@ fn changed(alloc: Global, file: &[u8], change: &[u8]) -> Result<Vec<u8>> {
     let place = usize::from(u16::from_be_bytes([*high, *low]));
     let mut copy = Vec::from_slice(alloc, file)?;
     let Some(there) = copy.get_mut(place) else {
-        bail!("no octet stands at the place of a change");
+        bail!("no octet is at the offset of a change");
     };
     *there = *octet;
     Ok(copy)
