@@ -18,8 +18,8 @@ pub enum PeError {
     NotPe,
     /// The optional header is neither that of PE32 nor that of PE32+.
     WrongMagic { got: u16 },
-    /// The optional header or the file ends before the certificate table's entry of the data
-    /// directories.
+    /// The optional header or the file ends before the end of the certificate table's entry of the
+    /// data directories, or there are fewer than five of these.
     NoDirectory,
     /// The entry says that there is no certificate table.
     NoTable,

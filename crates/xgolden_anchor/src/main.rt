@@ -11,9 +11,8 @@
 //! ```
 //!
 //! PURPOSE is `code` or `time`, DATE the contents of a GeneralizedTime. An anchor is `code`,
-//! `time`, `code+time` or `neither`, a colon and its octets. Octets are in hexadecimal, `-` stands
-//! for no anchors or an empty pool. A line is printed for each vector: the path that is found, or
-//! none. `tools/golden/xgolden_anchor.py` makes vectors and golden output.
+//! `time`, `code+time` or `neither`, a colon and its octets. Octets are in hexadecimal, `-` is no
+//! anchors or an empty pool. A line is printed for each vector: the path that is found, or none. `tools/golden/xgolden_anchor.py` makes vectors and golden output.
 #![tactic(auto)]
 
 use anyhow::{Context, Result, bail};
