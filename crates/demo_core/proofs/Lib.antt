@@ -1,0 +1,3 @@
+mod Drawing
+mod Sizes
+mod Smallness
