@@ -1,3 +1,4 @@
 mod Drawing
 mod Sizes
 mod Smallness
+mod StepSecrets

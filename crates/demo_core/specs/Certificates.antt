@@ -1,6 +1,6 @@
 -- The certificates of a demonstration (RFC 5280 4.1), which are signed under the demonstration
 -- scheme, and their digest.
-use Rattle.std.specs.Prelude.{ℕ, ◌+◌, ◌/◌, ◌%◌, ◌^◌, nat_lt, if◌then◌else◌, List, [], ◌∷◌, ◌++◌, Option, Some, None, codes, decimal, flat_map}
+use Rattle.std.specs.Prelude.{ℕ, ◌+◌, ◌%◌, nat_lt, if◌then◌else◌, List, [], ◌∷◌, ◌++◌, Option, Some, None, codes, decimal, flat_map}
 use Rattle.std.specs.List.{range_with_len}
 use Rattle.sha2.specs.Sha256.{sha256}
 use Rattle.der_core.specs.DerElement.{DerElement, Primitive}
@@ -17,6 +17,7 @@ use Rattle.sig_core.specs.RsaSecret.{rsa_public_element}
 use Rattle.sig_core.specs.declared.algorithm.SigAlg.TheVariants.{RsaSha256}
 use Rattle.x509_types.specs.TbsElements.{tbs_of}
 use Rattle.demo_core.specs.History.{demo_step}
+use Rattle.demo_core.specs.Secrets.{step_modulus}
 use Rattle.demo_core.specs.declared.history.Step.{Step}
 
 -- an algorithm whose parameters are NULL (RFC 3279 2.2.1, 2.3.1)
@@ -36,8 +37,7 @@ year_time year = Primitive 0x17 (two_digits (year % 100) ++ codes "0101000000Z")
 
 -- the RSAPublicKey (RFC 8017 A.1.1): the modulus is 1 and the index in three octets, the exponent 3
 abbrev pub step_rsa_key : ℕ → DerElement
-step_rsa_key index =
-    rsa_public_element (1 ∷ index / 2 ^ 16 ∷ index / 2 ^ 8 % 2 ^ 8 ∷ index % 2 ^ 8 ∷ []) (3 ∷ [])
+step_rsa_key index = rsa_public_element (step_modulus index) (3 ∷ [])
 
 -- the SubjectPublicKeyInfo (RFC 3279 2.3.1)
 abbrev pub step_key : ℕ → DerElement

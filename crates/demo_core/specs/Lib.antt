@@ -2,5 +2,6 @@
 -- Rules, which the promises rest on: `Draws`.
 pub mod Draws
 pub mod History
+pub mod Secrets
 pub mod Certificates
 pub mod Size

@@ -4,6 +4,8 @@
 mod generator;
 mod history;
 mod laws;
+mod secret;
 
 pub use history::{Step, Years, history_of};
-pub use laws::{certificates_are_small, small_elements_are_written};
+pub use laws::{certificates_are_small, secrets_have_keys, small_elements_are_written};
+pub use secret::private_key_of;

@@ -1,6 +1,6 @@
 //! The steps of a demonstration.
 
-use demo_core::{Step, Years, history_of};
+use demo_core::{Step, Years, history_of, private_key_of};
 use std::alloc::{AllocError, Global};
 use std::test::Fail;
 
@@ -17,6 +17,17 @@ fn draws(rt: HostRuntime) -> Result<(), Fail> {
     assert_eq!(rt; root_count(rt.alloc(), 200)?, 24);
     Ok(())
 }
+
+#[test]
+fn reads_keys(rt: HostRuntime) -> Result<(), Fail> {
+    let wanted = hex::decode(rt.alloc(), KEY)?;
+    let key = private_key_of(rt.alloc(), 0x01_02_03)?;
+    assert_eq!(rt; key.to_pkcs1(rt.alloc())?.as_slice(), wanted.as_slice());
+    Ok(())
+}
+
+/// The RSAPrivateKey (RFC 8017 A.1.2) with the modulus 01010203.
+const KEY: &str = "301e02010002040101020302010302010502010702010b020101020102020104";
 
 /// As `tools/golden/demo_lines.py --steps 2` draws them.
 const TWO_STEPS: [Step; 2] = [
