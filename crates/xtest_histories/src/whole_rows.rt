@@ -59,6 +59,13 @@ impl WholeRows {
         };
         Ok(self.rows.push(row)?)
     }
+
+    /// Whether some row is this signature.
+    fn has(&self, alg: SigAlg, key: &[u8], msg: &[u8], sig: &[u8]) -> bool
+        ensures { result ≡ list_any (is_row_of alg key.now msg.now sig.now) self.now.rows.items }
+    {
+        self.rows.iter().any(|row| row.is_of(alg, key, msg, sig))
+    }
 }
 
 impl Scheme for WholeRows {
@@ -84,7 +91,7 @@ impl Scheme for WholeRows {
         msg: &[u8],
         sig: &[u8],
     ) -> Result<Verdict, AllocError> {
-        if self.rows.iter().any(|row| row.is_of(alg, key, msg, sig)) {
+        if self.has(alg, key, msg, sig) {
             Ok(Verdict::Accept)
         } else {
             Ok(Verdict::Reject)
