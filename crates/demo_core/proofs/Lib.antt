@@ -2,3 +2,5 @@ mod Drawing
 mod Sizes
 mod Smallness
 mod StepSecrets
+mod StepKeys
+mod KeyRefusals

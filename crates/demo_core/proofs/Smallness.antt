@@ -40,6 +40,12 @@ constraints_nested false (Some number) = omega arith
 key_size : (index : ℕ) → size (step_key index) ≤ 100
 key_size index = omega (arith, within_size (step_rsa_key index))
 
+pub rsa_small : (index : ℕ) → IsSmall (step_rsa_key index)
+rsa_small index = record { nested = omega arith; light = omega arith }
+
+pub key_small : (index : ℕ) → IsSmall (step_key index)
+key_small index = record { nested = omega arith; light = omega (arith, key_size index) }
+
 own_size : (index : ℕ) → size (own_identifier index) ≡ 38
 own_size index = omega (arith, length-sha256 (encoding (step_key index)))
 
@@ -61,8 +67,8 @@ certificate_size signer tbs =
 elements_small : (index signer : ℕ) (step : Step) → index < 10 ^ 10 → signer < 10 ^ 10 → AreSmall (elements_under index signer step)
 elements_small index signer step small_index small_signer =
     let tbs : size (step_tbs index signer step) ≤ 1000 = tbs_size index signer step small_index small_signer in
-    let rsa : IsSmall (step_rsa_key index) = record { nested = omega arith; light = omega arith } in
-    let key : IsSmall (step_key index) = record { nested = omega arith; light = omega (arith, key_size index) } in
+    let rsa : IsSmall (step_rsa_key index) = rsa_small index in
+    let key : IsSmall (step_key index) = key_small index in
     let constraints : IsSmall (step_constraints step) = record { nested = omega (arith, constraints_nested step.ca step.path_length); light = omega (arith, constraints_size step.ca step.path_length) } in
     let own : IsSmall (own_identifier index) = record { nested = omega arith; light = omega (arith, own_size index) } in
     let authority : IsSmall (authority_identifier signer) = record { nested = omega arith; light = omega (arith, authority_size signer) } in

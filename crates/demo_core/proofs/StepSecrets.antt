@@ -20,10 +20,10 @@ use Rattle.demo_core.proofs.Sizes.{light_short}
 not_empty : (first : ℕ) (rest : List ℕ) → IsInteger (first ∷ rest)
 not_empty first rest e = absurd cc
 
-integer_formed : (contents : List ℕ) → IsWellFormed (integer_of contents)
+pub integer_formed : (contents : List ℕ) → IsWellFormed (integer_of contents)
 integer_formed contents = ((omega arith, omega arith, omega arith), refl)
 
-secret_der : (index : ℕ) → IsDer (rsa_private_element (step_numbers index))
+pub secret_der : (index : ℕ) → IsDer (rsa_private_element (step_numbers index))
 secret_der index = record {
   formed = ((omega arith, omega arith, omega arith), refl, (integer_formed (0 ∷ []), (integer_formed (step_modulus index), (integer_formed (3 ∷ []), (integer_formed (5 ∷ []), (integer_formed (7 ∷ []), (integer_formed (11 ∷ []), (integer_formed (1 ∷ []), (integer_formed (2 ∷ []), (integer_formed (4 ∷ []), tt))))))))));
   nested = omega arith;
