@@ -6,6 +6,7 @@ mod of_authenticode_parts;
 mod of_authenticode_signature;
 mod of_cms_content;
 mod of_cms_types;
+mod of_demo_core;
 mod of_der_core;
 mod of_extension_types;
 mod of_key_core;

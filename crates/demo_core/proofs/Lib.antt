@@ -1,0 +1,6 @@
+mod Drawing
+mod Sizes
+mod Smallness
+mod StepSecrets
+mod StepKeys
+mod KeyRefusals

@@ -1,0 +1,7 @@
+-- Promises, which public contracts cite: all but `Draws`.
+-- Rules, which the promises rest on: `Draws`.
+pub mod Draws
+pub mod History
+pub mod Secrets
+pub mod Certificates
+pub mod Size

@@ -1,0 +1,88 @@
+//! Laws on the size of elements, and on the keys of a demonstration.
+
+ghost use Rattle.std.specs.Prelude.{◌≡◌, ℕ, true, Some, ◌<◌, ◌≤◌, ◌^◌, List, length};
+ghost use Rattle.der_core.specs.DerElement.{DerElement};
+ghost use Rattle.der_core.specs.Encoding.{encoding, IsShort};
+ghost use Rattle.der_core.specs.Refusals.{RefusesInner};
+ghost use Rattle.der_core.specs.declared.error.DerError.{DerError};
+ghost use Rattle.der_core.specs.declared.error.DerError.TheVariants as errors;
+ghost use Rattle.key_core.specs.KeyIdentifier.{IsKeyIdentifier, RefusesKeyIdentifier};
+ghost use Rattle.key_core.specs.Keys.{container_of, point_beside};
+ghost use Rattle.key_core.specs.PrivatePkcs1.{IsPrivatePkcs1};
+ghost use Rattle.key_core.specs.PublicHalf.{RefusesPublicHalf};
+ghost use Rattle.key_core.specs.SignatureRules.{RefusesSignatureBy};
+ghost use Rattle.key_core.specs.Signing.{IsKeyPair, sign_rules};
+ghost use Rattle.key_core.specs.Verifying.{Accepts};
+ghost use Rattle.key_core.specs.declared.error.KeyError.{KeyError};
+ghost use Rattle.key_core.specs.declared.error.KeyError.TheVariants as key_errors;
+ghost use Rattle.key_core.specs.declared.key_id.KeyIdGenError.{KeyIdGenError};
+ghost use Rattle.key_core.specs.declared.key_id.KeyIdGenError.TheVariants as id_errors;
+ghost use Rattle.key_core.specs.declared.key_id.KeyIdGenMethod.TheVariants.{SPKFullDER};
+ghost use Rattle.key_core.specs.declared.private_key.PrivateKey.{PrivateKey};
+ghost use Rattle.key_core.specs.declared.signature_algorithm.SignatureAlgorithm.TheVariants.{RsaPkcs1v15};
+ghost use Rattle.key_core.specs.declared.signature_error.SignatureError.{SignatureError};
+ghost use Rattle.key_core.specs.declared.signature_error.SignatureError.TheVariants as signature_errors;
+ghost use Rattle.key_types.specs.PublicKeyInfo.{public_key_info};
+ghost use Rattle.key_types.specs.declared.key_info.SubjectPublicKeyInfo.{SubjectPublicKeyInfo};
+ghost use Rattle.sig_core.specs.DemoScheme.{demo_key, demo_signs, demo_verdict};
+ghost use Rattle.sig_core.specs.declared.algorithm.SchemeKind.TheVariants.{Rsa};
+ghost use Rattle.sig_core.specs.declared.algorithm.SigAlg.TheVariants.{RsaSha256};
+ghost use Rattle.sig_core.specs.declared.hash.HashAlgorithm.TheVariants.{SHA2_256};
+ghost use Rattle.demo_core.specs.Certificates.{signature_under, step_elements, step_key, step_key_id, step_rsa_key};
+ghost use Rattle.demo_core.specs.History.{demo_step};
+ghost use Rattle.demo_core.specs.Secrets.{AreStepKeys, demo_pair, signs_by_demo, step_secret};
+ghost use Rattle.demo_core.specs.Size.{size, AreSmall};
+
+/// An element isn't longer than its size, and small elements are written, unless memory runs out.
+pub fn small_elements_are_written()
+    ensures bounded { (element : DerElement) → length (encoding element) ≤ size element }
+    ensures short { (element : DerElement) → size element < 2 ^ 32 → IsShort element }
+    ensures only_memory { (elements : List DerElement) (e : DerError) → AreSmall elements
+        → RefusesInner elements e → e ≡ errors.Memory }
+{}
+
+/// Each element that is written for a certificate of a demonstration is small.
+pub fn certificates_are_small()
+    ensures { (count index : ℕ) → index < count → count < 2 ^ 32
+        → AreSmall (step_elements index (demo_step count index)) }
+{}
+
+/// The demonstration scheme derives the public key of a step from its private one, and signs with
+/// it.
+pub fn secrets_have_keys()
+    ensures derived { (index : ℕ)
+        → demo_key Rsa (step_secret index) ≡ Some (encoding (step_rsa_key index)) }
+    ensures signs { (index : ℕ) → demo_signs RsaSha256 (step_secret index) ≡ true }
+{}
+
+/// The keys of a step have one encoding and one key identifier, belong together under the
+/// demonstration scheme, and it accepts one signature of a message by them.
+pub fn step_keys_are_determined()
+    ensures written { (index : ℕ) (key : PrivateKey) (info : SubjectPublicKeyInfo)
+        → AreStepKeys index key info → public_key_info info ≡ step_key index }
+    ensures identified { (index : ℕ) (key : PrivateKey) (info : SubjectPublicKeyInfo) (id : List ℕ)
+        → AreStepKeys index key info → IsKeyIdentifier (SPKFullDER SHA2_256) info id
+        → id ≡ step_key_id index }
+    ensures paired { (index : ℕ) (key : PrivateKey) (info : SubjectPublicKeyInfo)
+        → AreStepKeys index key info → IsKeyPair demo_pair key info }
+    ensures accepted { (index : ℕ) (key : PrivateKey) (info : SubjectPublicKeyInfo)
+        (message signature : List ℕ) → AreStepKeys index key info
+        → Accepts demo_verdict (RsaPkcs1v15 SHA2_256) info message signature
+        → signature ≡ signature_under index message }
+{}
+
+/// Only out of memory is a reason why the private key of a step has no public key, that one no key
+/// identifier, or why a message isn't signed.
+pub fn step_keys_are_refused_for_memory_alone()
+    ensures public { (index : ℕ) (key : PrivateKey) (e : KeyError)
+        → IsPrivatePkcs1 (step_secret index) key
+        → RefusesPublicHalf (container_of key).private_key (point_beside key) e
+        → e ≡ key_errors.Memory }
+    ensures identified { (index : ℕ) (key : PrivateKey) (info : SubjectPublicKeyInfo)
+        (e : KeyIdGenError) → AreStepKeys index key info
+        → RefusesKeyIdentifier (SPKFullDER SHA2_256) info e → e ≡ id_errors.Memory }
+    ensures signed { (index : ℕ) (key : PrivateKey) (message : List ℕ) (e : SignatureError)
+        → IsPrivatePkcs1 (step_secret index) key
+        → RefusesSignatureBy (sign_rules signs_by_demo (RsaPkcs1v15 SHA2_256) key message) e
+        → e ≡ signature_errors.Memory }
+{}
