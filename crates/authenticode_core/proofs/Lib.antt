@@ -43,3 +43,5 @@ pub mod CaNames
 pub mod CaOrder
 pub mod PolicyOrder
 pub mod OneAnswer
+pub mod LentLists
+pub mod OctetsOfLists

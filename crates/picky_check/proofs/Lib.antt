@@ -2,7 +2,6 @@ pub mod Hashes
 pub mod AskedWords
 pub mod Reported
 pub mod GivenLists
-pub mod LentLists
 pub mod ListAnswers
 pub mod Verdicts
 pub mod ReadCertificates

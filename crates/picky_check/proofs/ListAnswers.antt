@@ -16,8 +16,9 @@ use Rattle.picky_check.specs.Policies.{check_policy}
 use Rattle.picky_check.specs.Report.{Answer, OfSignature, OfChain, WantsMemory, refused_line}
 use Rattle.authenticode_core.specs.ListOctets.{IsTrustList, IsUnreadList}
 use Rattle.picky_check.specs.SignatureAnswer.{IsListAnswer, IsListRefusal, IsSignatureAnswer}
-use Rattle.picky_check.proofs.GivenLists.{one_list, unread_for_memory, unread_line}
-use Rattle.picky_check.proofs.LentLists.{answer_under}
+use Rattle.authenticode_core.proofs.LentLists.{answer_under}
+use Rattle.authenticode_core.proofs.OctetsOfLists.{one_list, unread_for_memory}
+use Rattle.picky_check.proofs.GivenLists.{unread_line}
 use Rattle.picky_check.proofs.Reported.{out_of_memory, reported_is}
 
 wants : (e : CheckError) → e ≡ check.Memory → WantsMemory (OfSignature (Err e))
