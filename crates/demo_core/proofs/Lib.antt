@@ -4,3 +4,8 @@ mod Smallness
 mod StepSecrets
 mod StepKeys
 mod KeyRefusals
+mod StepParts
+mod StepTbs
+mod StepInner
+mod StepBuilding
+mod StepRefusals

@@ -64,7 +64,7 @@ certificate_size : (signer : ℕ) (tbs : DerElement) → size (certificate_under
 certificate_size signer tbs =
     let signature : length (signature_under signer (encoding tbs)) ≡ 32 = length-sha256 _ in omega (arith, signature)
 
-elements_small : (index signer : ℕ) (step : Step) → index < 10 ^ 10 → signer < 10 ^ 10 → AreSmall (elements_under index signer step)
+pub elements_small : (index signer : ℕ) (step : Step) → index < 10 ^ 10 → signer < 10 ^ 10 → AreSmall (elements_under index signer step)
 elements_small index signer step small_index small_signer =
     let tbs : size (step_tbs index signer step) ≤ 1000 = tbs_size index signer step small_index small_signer in
     let rsa : IsSmall (step_rsa_key index) = rsa_small index in

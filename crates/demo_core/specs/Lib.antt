@@ -5,3 +5,4 @@ pub mod History
 pub mod Secrets
 pub mod Certificates
 pub mod Size
+pub mod Builders

@@ -1,6 +1,6 @@
 //! Laws on the size of elements, and on the keys of a demonstration.
 
-ghost use Rattle.std.specs.Prelude.{◌≡◌, ℕ, true, Some, ◌<◌, ◌≤◌, ◌^◌, List, length};
+ghost use Rattle.std.specs.Prelude.{◌≡◌, ℕ, true, Some, ◌+◌, ◌<◌, ◌≤◌, ◌^◌, List, length};
 ghost use Rattle.der_core.specs.DerElement.{DerElement};
 ghost use Rattle.der_core.specs.Encoding.{encoding, IsShort};
 ghost use Rattle.der_core.specs.Refusals.{RefusesInner};
@@ -11,7 +11,7 @@ ghost use Rattle.key_core.specs.Keys.{container_of, point_beside};
 ghost use Rattle.key_core.specs.PrivatePkcs1.{IsPrivatePkcs1};
 ghost use Rattle.key_core.specs.PublicHalf.{RefusesPublicHalf};
 ghost use Rattle.key_core.specs.SignatureRules.{RefusesSignatureBy};
-ghost use Rattle.key_core.specs.Signing.{IsKeyPair, sign_rules};
+ghost use Rattle.key_core.specs.Signing.{IsKeyPair, arithmetic, sign_rules};
 ghost use Rattle.key_core.specs.Verifying.{Accepts};
 ghost use Rattle.key_core.specs.declared.error.KeyError.{KeyError};
 ghost use Rattle.key_core.specs.declared.error.KeyError.TheVariants as key_errors;
@@ -28,7 +28,21 @@ ghost use Rattle.sig_core.specs.DemoScheme.{demo_key, demo_signs, demo_verdict};
 ghost use Rattle.sig_core.specs.declared.algorithm.SchemeKind.TheVariants.{Rsa};
 ghost use Rattle.sig_core.specs.declared.algorithm.SigAlg.TheVariants.{RsaSha256};
 ghost use Rattle.sig_core.specs.declared.hash.HashAlgorithm.TheVariants.{SHA2_256};
-ghost use Rattle.demo_core.specs.Certificates.{signature_under, step_elements, step_key, step_key_id, step_rsa_key};
+ghost use Rattle.asn1_types.specs.Calendar.{IsUtcYear};
+ghost use Rattle.x509_types.specs.Certificate.{certificate};
+ghost use Rattle.x509_types.specs.TbsCertificate.{tbs_certificate};
+ghost use Rattle.x509_types.specs.declared.certificate.Certificate.{Certificate};
+ghost use Rattle.x509_types.specs.declared.certificate.tbs_certificate.TbsCertificate.{TbsCertificate};
+ghost use Rattle.der_core.specs.Steps.{RefusesBySteps};
+ghost use Rattle.x509_core.specs.declared.error.CertError.{CertError};
+ghost use Rattle.x509_core.specs.declared.error.CertError.TheVariants as cert_errors;
+ghost use Rattle.x509_issuing.specs.BuiltCertificate.{IsTbsFor};
+ghost use Rattle.x509_issuing.specs.Building.{IsSignedCertificate, build_steps};
+ghost use Rattle.x509_issuing.specs.declared.builder.CertificateBuilder.{CertificateBuilder};
+ghost use Rattle.x509_issuing.specs.declared.builder.IssuerInfos.{IssuerInfos};
+ghost use Rattle.demo_core.specs.Builders.{IsStepBuilder};
+ghost use Rattle.demo_core.specs.Certificates.{signature_under, signer_of, step_certificate, step_elements, step_key, step_key_id, step_rsa_key, step_tbs};
+ghost use Rattle.demo_core.specs.declared.history.Step.{Step};
 ghost use Rattle.demo_core.specs.History.{demo_step};
 ghost use Rattle.demo_core.specs.Secrets.{AreStepKeys, demo_pair, signs_by_demo, step_secret};
 ghost use Rattle.demo_core.specs.Size.{size, AreSmall};
@@ -85,4 +99,27 @@ pub fn step_keys_are_refused_for_memory_alone()
         → IsPrivatePkcs1 (step_secret index) key
         → RefusesSignatureBy (sign_rules signs_by_demo (RsaPkcs1v15 SHA2_256) key message) e
         → e ≡ signature_errors.Memory }
+{}
+
+/// The certificate that is built for a step is the step's, element for element. Only out of memory
+/// refuses it.
+pub fn step_certificates_are_determined()
+    ensures tbs { (index : ℕ) (step : Step) (b : CertificateBuilder) (issuer : IssuerInfos)
+        (tbs : TbsCertificate) → index < 255 → IsUtcYear step.years.first
+        → IsUtcYear step.years.last → IsStepBuilder index step b issuer
+        → IsTbsFor demo_verdict b issuer (index + 1) tbs
+        → tbs_certificate tbs ≡ step_tbs index (signer_of index step.issuer) step }
+    ensures certificate { (index : ℕ) (step : Step) (b : CertificateBuilder) (issuer : IssuerInfos)
+        (c : Certificate) → index < 255 → IsUtcYear step.years.first → IsUtcYear step.years.last
+        → IsStepBuilder index step b issuer
+        → IsSignedCertificate demo_verdict demo_pair b.signature_hash_type issuer.key.now
+        (IsTbsFor demo_verdict b issuer (index + 1)) c
+        → certificate c ≡ step_certificate index step }
+    ensures refused { (index : ℕ) (step : Step) (b : CertificateBuilder) (issuer : IssuerInfos)
+        (e : CertError) → index < 255 → signer_of index step.issuer < 255
+        → IsUtcYear step.years.first → IsUtcYear step.years.last
+        → IsStepBuilder index step b issuer
+        → RefusesBySteps cert_errors.Memory
+        (build_steps (arithmetic demo_verdict signs_by_demo demo_pair) b (index + 1)) e
+        → e ≡ cert_errors.Memory }
 {}

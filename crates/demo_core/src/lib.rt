@@ -9,6 +9,7 @@ mod secret;
 pub use history::{Step, Years, history_of};
 pub use laws::{
     certificates_are_small, secrets_have_keys, small_elements_are_written,
-    step_keys_are_determined, step_keys_are_refused_for_memory_alone,
+    step_certificates_are_determined, step_keys_are_determined,
+    step_keys_are_refused_for_memory_alone,
 };
 pub use secret::private_key_of;
