@@ -21,7 +21,7 @@ one_indirect : (table : List ℕ) (f : SignedDataElements) (d : IndirectData) (a
 one_indirect table f d algorithm has indirect names =
     indirect_once f names.1.d d (subst (λ (x : SignedDataElements). HasIndirectData x names.1.d) (one_data table names.1.f f names.1.signed has) names.1.indirect) indirect
 
-named_by : (table : List ℕ) (f : SignedDataElements) (d : IndirectData) (algorithm : HashAlgorithm) → HasSignedData table f → HasIndirectData f d → NamesImageDigest table algorithm → NamesDigest d.algorithm algorithm
+pub named_by : (table : List ℕ) (f : SignedDataElements) (d : IndirectData) (algorithm : HashAlgorithm) → HasSignedData table f → HasIndirectData f d → NamesImageDigest table algorithm → NamesDigest d.algorithm algorithm
 named_by table f d algorithm has indirect names =
     subst (λ (x : IndirectData). NamesDigest x.algorithm algorithm) (one_indirect table f d algorithm has indirect names) names.1.named
 

@@ -3,3 +3,9 @@ pub mod StatedDigest
 pub mod ImageHashes
 pub mod TableAnswers
 pub mod CheckExits
+pub mod AskedWords
+pub mod Reported
+pub mod GivenLists
+pub mod LentLists
+pub mod ListAnswers
+pub mod Vouching

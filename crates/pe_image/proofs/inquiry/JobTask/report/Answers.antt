@@ -1,0 +1,41 @@
+use Rattle.std.proofs.Common.{List, ℕ, ap, arith, sym, subst}
+use Rattle.std.proofs.lemmas.Result.{IfOk-weaker, err_from_is_err_and}
+use Rattle.sig_core.specs.declared.verdict_row.VerdictRow.{VerdictRow}
+use Rattle.sig_core.specs.VerdictTable.{IsTable, IsFirstBadLine, verdict_of}
+use Rattle.pe_image.specs.Commands.{IsAnswerTo}
+use Rattle.program_frame.specs.Held.{contents_held}
+use Rattle.pe_image.specs.Jobs.{job_held}
+use Rattle.program_frame.specs.Stops.{stop_for_table}
+use Rattle.pe_image.proofs.Reported.{gives_line, low}
+use Rattle.pe_image.proofs.inquiry.JobTask.report.Goals as goal
+
+pub returns-clause-reported : goal.returns-clause-reported
+returns-clause-reported c =
+    IfOk-weaker c.judge_by.result _ _ (λ report h. record {
+      answer = h.0;
+      rows = c.in_ok-table.table;
+      is_table = subst (λ (text : List ℕ). IsTable text c.in_ok-table.table) c.table_in.ensures c.in_ok-table.ensures.table;
+      is_answer = h.1;
+      reportable = h.2.reportable;
+      status = h.2.status;
+      text = h.2.line;
+    }) c.judge_by.ensures.reported
+
+pub returns-clause-low : goal.returns-clause-low
+returns-clause-low c = IfOk-weaker c.judge_by.result _ _ (λ report h. omega (arith, h.2.status, low h.0)) c.judge_by.ensures.reported
+
+pub returns-in_err-table-clause-only : goal.returns-in_err-table-clause-only
+returns-in_err-table-clause-only c line is =
+    let memory = c.in_err-table.ensures.each_table is.rows (subst (λ (text : List ℕ). IsTable text is.rows) (sym c.table_in.ensures) is.is_table) in
+    let p = err_from_is_err_and c.from_residual.result c.from_residual.ensures.1 in
+    rw (p.1, p.2) (ap stop_for_table memory)
+
+pub returns-clause-only : goal.returns-clause-only
+returns-clause-only c line is =
+    let same = c.in_ok-table.ensures.each_table is.rows (subst (λ (text : List ℕ). IsTable text is.rows) (sym c.table_in.ensures) is.is_table) in
+    gives_line is.answer line c.judge_by.result is.status is.text (c.judge_by.ensures.only is.answer
+    (subst (λ (rs : List VerdictRow). IsAnswerTo (verdict_of rs) (job_held c.args.self.now) (contents_held c.args.read.now) is.answer) (sym same) is.is_answer) is.reportable)
+
+pub returns-clause-bad : goal.returns-clause-bad
+returns-clause-bad c bad =
+    absurd (c.in_ok-table.ensures.each_bad_line bad.0 (subst (λ (text : List ℕ). IsFirstBadLine text bad.0) (sym c.table_in.ensures) bad.1))

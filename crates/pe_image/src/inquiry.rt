@@ -1,0 +1,135 @@
+//! The report about the files that the words name, or why there is none.
+
+ghost use Rattle.std.specs.Prelude.{◌≡◌, ◌≤◌, ◌⊎◌, Err, length, map, string_bytes, IfOk};
+ghost use Rattle.der_core.specs.Counts.{FailsOnce};
+ghost use Rattle.program_frame.specs.Held.{contents_held, options_held};
+ghost use Rattle.program_frame.specs.Inquiry.{IsInquiry};
+ghost use Rattle.program_frame.specs.ReadFiles.{HandsOutAtMost};
+ghost use Rattle.program_frame.specs.Statuses as statuses;
+ghost use Rattle.pe_image.specs.Commands.{IsAnswerTo, question_of, table_in};
+ghost use Rattle.pe_image.specs.Jobs.{job_held};
+ghost use Rattle.pe_image.specs.ListAnswer.{IsListAnswer, IsProgramAnswer};
+ghost use Rattle.pe_image.specs.ProgramPolicy.{program_policy};
+ghost use Rattle.pe_image.specs.Report.{Reports};
+ghost use Rattle.pe_image.specs.Words.{AsksFor, AsksForNothing, Job as AskedJob, files_of};
+
+use crate::check::check_pe;
+use crate::error::PeCheckError;
+use crate::policy::program_policy;
+use crate::report::report_of;
+use crate::words::{Job, job_of};
+use authenticode_core::{AuthenticodeError, CertificateTrustList, CheckError, Policy};
+use names_core::UtcDate;
+use program_frame::{CheckOptions, Contents, Names, Report, Shelf, Stop, Task, answer};
+use sig_core::{Scheme, VerdictTable};
+use std::alloc::Global;
+
+/// The report that the words request.
+pub(crate) fn inquire<F: Shelf>(
+    alloc: Global,
+    words: &[String],
+    shelf: &mut F,
+) -> Result<Report, Stop>
+    ensures usage { AsksForNothing (map string_bytes words.now) → result ≡ Err Stop.Usage }
+    ensures unread { AsksForNothing (map string_bytes words.now) → shelf.new ≡ shelf.old }
+    ensures asked { (asked : AskedJob) → AsksFor (map string_bytes words.now) asked
+        → IsInquiry (F.state shelf.old) (F.state shelf.new) (question_of asked) result }
+    ensures low { IfOk result (λ report. report.status ≤ statuses.refused) }
+    ensures at_most { (asked : AskedJob) → AsksFor (map string_bytes words.now) asked
+        → HandsOutAtMost (length (files_of asked)) (F.state shelf.old) (F.state shelf.new) }
+    ensures once { FailsOnce (result ≡ Err Stop.Shelf)
+        (F.state shelf.old).faults (F.state shelf.new).faults }
+    ensures settled { AsksForNothing (map string_bytes words.now)
+        ⊎ ((asked : AskedJob) × AsksFor (map string_bytes words.now) asked) }
+{
+    match job_of(words) {
+        Some(job) => answer(alloc, shelf, &job),
+        None => Err(Stop::Usage),
+    }
+}
+
+impl Task for Job<'_> {
+    ghost question = { λ job. question_of (job_held job) };
+
+    fn names(&self) -> Names<'_> {
+        Names {
+            first: self.file,
+            second: self.table,
+            others: self.options.list_file(),
+        }
+    }
+
+    // The verdict table among the files has the verdicts.
+    fn report(&self, alloc: Global, read: &Contents) -> Result<Report, Stop> {
+        let table = VerdictTable::parse(alloc, table_in(read))?;
+        judge_by(alloc, self, read, &table)
+    }
+}
+
+/// The text of the verdict table, among the contents of the files.
+fn table_in(read: &Contents) -> &[u8]
+    ensures { result.now ≡ table_in (contents_held read.now) }
+{
+    &read.second
+}
+
+/// The report on the contents of a job's files, by a scheme.
+fn judge_by<S: Scheme>(
+    alloc: Global,
+    asked: &Job<'_>,
+    read: &Contents,
+    scheme: &S,
+) -> Result<Report, Stop>
+    ensures { Reports
+        (IsAnswerTo (S.judge scheme.now) (job_held asked.now) (contents_held read.now)) result }
+{
+    judge_listed(
+        alloc,
+        &read.first,
+        &read.others,
+        asked.date,
+        &asked.options,
+        scheme,
+    )
+}
+
+/// The report on the octets of a program, by a scheme and the options, the octets of whose trust
+/// list are the first of `lists`.
+fn judge_listed<S: Scheme>(
+    alloc: Global,
+    octets: &[u8],
+    lists: &[Vec<u8>],
+    date: UtcDate,
+    options: &CheckOptions<'_>,
+    scheme: &S,
+) -> Result<Report, Stop>
+    ensures { Reports (IsListAnswer (S.judge scheme.now) (program_policy date (options_held options.now))
+        octets.now (map (λ octets. octets.items) lists.now)) result }
+{
+    let [list, ..] = lists else {
+        let policy = program_policy(alloc, date, options, None);
+        return judge_program(alloc, octets, policy, scheme);
+    };
+    let list = match CertificateTrustList::from_der(alloc, list) {
+        Ok(list) => list,
+        Err(error) => {
+            let refusal = CheckError::from(AuthenticodeError::from(error));
+            return report_of(alloc, &Err(PeCheckError::from(refusal)));
+        }
+    };
+    let policy = program_policy(alloc, date, options, Some(&list));
+    judge_program(alloc, octets, policy, scheme)
+}
+
+/// The report on the octets of a program, by a scheme and a policy.
+fn judge_program<S: Scheme>(
+    alloc: Global,
+    octets: &[u8],
+    policy: Policy<'_>,
+    scheme: &S,
+) -> Result<Report, Stop>
+    ensures { Reports (IsProgramAnswer (S.judge scheme.now) policy.entry octets.now) result }
+{
+    let answer = check_pe(alloc, octets, policy, scheme);
+    report_of(alloc, &answer)
+}
