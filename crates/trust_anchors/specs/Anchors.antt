@@ -1,4 +1,4 @@
--- What a trust anchor is trusted for (RFC 5280 6.1.1 (d)).
+-- What a trust anchor is trusted for (RFC 5280 6.2).
 use Rattle.std.specs.Prelude.{IsTrue}
 use Rattle.trust_anchors.specs.declared.anchor.Anchor.{Anchor}
 use Rattle.trust_anchors.specs.declared.anchor.Purpose.{Purpose}

@@ -16,3 +16,4 @@ pub use laws::{anchored_paths_are_accepted, first_paths_are_one};
 pub use path::AnchoredPath;
 pub use steps::Steps;
 pub use store::AnchorStore;
+pub use x509_core::Places;

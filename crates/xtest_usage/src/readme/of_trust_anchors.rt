@@ -39,6 +39,46 @@ fn path_to_a_root(rt: HostRuntime) -> Result<(), Fail> {
     Ok(())
 }
 
+#[test]
+fn anchors_are_limited(rt: HostRuntime) -> Result<(), Fail> {
+    let alloc = rt.alloc();
+    let mut anchors = AnchorStore::new(alloc);
+    for _ in 0..64 {
+        anchors.add(certificate(alloc, ROOT)?, true, false)?;
+    }
+    let refused = anchors.add(certificate(alloc, ROOT)?, true, false);
+    assert!(rt; matches!(&refused, Err(AnchorError::TooMany { count: 65 })));
+    assert_eq!(rt; anchors.len(), 64);
+    Ok(())
+}
+
+#[test]
+fn pool_is_limited(rt: HostRuntime) -> Result<(), Fail> {
+    let alloc = rt.alloc();
+    let leaf = certificate(alloc, LEAF)?;
+    let mut others = Vec::new(alloc);
+    for _ in 0..255 {
+        others.push(certificate(alloc, CROSS)?)?;
+    }
+    others.push(certificate(alloc, INT)?)?;
+    let year = UtcDate::ymd(2025, 1, 1);
+    assert!(rt; year.is_some());
+    if let Some(date) = year {
+        let scheme = DemoScheme::new();
+        let root = certificate(alloc, ROOT)?;
+        let path = path_of(alloc, &leaf, &others, root, &date, &scheme)?;
+        assert!(rt; path.is_some());
+        if let Some(path) = path {
+            assert_eq!(rt; path.pool.as_slice(), &[255]);
+        }
+        others.push(certificate(alloc, INT)?)?;
+        let root = certificate(alloc, ROOT)?;
+        let refused = path_of(alloc, &leaf, &others, root, &date, &scheme);
+        assert!(rt; matches!(&refused, Err(AnchorError::TooMany { count: 257 })));
+    }
+    Ok(())
+}
+
 fn certificate(alloc: Global, text: &str) -> Result<Cert, Fail> {
     Ok(Cert::from_der(alloc, &hex::decode(alloc, text)?)?)
 }
