@@ -17,6 +17,8 @@ from unittest.mock import patch
 sys.path.insert(0, str(Path(__file__).resolve().parents[1]))
 
 import order_bag
+import ordered_program
+import signed_program
 import verdict_table
 from cases import basic_rows, basic_world, check_rows, demo_signatures, kept_certificates, made_signatures
 from cases.certificate_cases import (
@@ -254,6 +256,8 @@ class SignedProgramsTest(unittest.TestCase):
     def test_sample(self):
         for path, octets in signed_programs.sample_files().items():
             self.assertEqual((folders.CRATES / "picky" / path).read_bytes(), octets, path)
+        for path, octets in signed_programs.program_files().items():
+            self.assertEqual((folders.CRATES / "picky_pe" / path).read_bytes(), octets, path)
         case = signed_programs.Case("stamped", "2023-06-15")
         line = signed_programs.judged(case, signed_programs.sample())
         self.assertEqual(line, "accepted signer=0 path=1,2 excuse=none")
@@ -264,6 +268,8 @@ class SignedProgramsTest(unittest.TestCase):
             self.assertEqual(sorted(ordered.octets), sorted(program.file().octets))
             self.assertEqual(order_bag.with_ordered_bag(ordered.octets), ordered.octets)
             self.assertEqual(set(verdict_table.table(ordered.octets)[0]), set(program.table.splitlines()), label)
+            entry = order_bag.with_ordered_bag(signed_program.signature(program.octets))
+            self.assertEqual(ordered_program.with_entry(program.octets, entry), program.in_order().octets, label)
 
     def test_each_signature_of_an_issuer_is_asked_for_once(self):
         # Those of the token too, in which osslsigncode puts the certificate that stamps twice.

@@ -7,6 +7,7 @@ Usage:
     python3 tools/interop/signed_programs.py --check
     python3 tools/interop/signed_programs.py --write LABEL FILE
     python3 tools/interop/signed_programs.py --sample FOLDER
+    python3 tools/interop/signed_programs.py --program FOLDER
 
 The first prints `tools/cases/signed_programs.txt` anew: openssl (3.0 or later) makes the
 certificates of `KINDS`, and osslsigncode (2.6 or later) signs a program with each
@@ -20,8 +21,9 @@ The second compares the answer to each of `CASES`, by `check_judge`, with that o
 prints where they differ and why.
 
 The third writes to FILE the signed program of a label, or for the label `root` the
-root in PEM.  The last writes the signature of one of them, its certificates in order,
-and its table: the files beside the stored run of `picky`, for which `check` is asked first.
+root in PEM.  `--sample` writes the signature of one of them, its certificates in order,
+and its table: the files beside the stored run of `picky`, for which `check` is asked first;
+`--program` that program and the table, for the stored run of `picky_pe`.
 """
 
 import subprocess
@@ -293,9 +295,18 @@ def sample():
 
 def sample_files():
     """The files of the sample by their paths in the crate `picky`, the table in version 2."""
-    file = sample().file()
-    rows = [FIRST_LINE, *(f"accept {row}" for row in file.table.splitlines())]
-    return {"data/signed.bin": file.octets, "data/signed_table.txt": "".join(f"{row}\n" for row in rows).encode("ascii")}
+    return {"data/signed.bin": sample().file().octets, "data/signed_table.txt": sample_table()}
+
+
+def program_files():
+    """The files of the stored run of `picky_pe` by their paths in that crate."""
+    return {"data/signed.exe": sample().octets, "data/signed_table.txt": sample_table()}
+
+
+def sample_table():
+    """The table of the sample, in version 2."""
+    rows = [FIRST_LINE, *(f"accept {row}" for row in sample().table.splitlines())]
+    return "".join(f"{row}\n" for row in rows).encode("ascii")
 
 
 def main(arguments):
@@ -304,6 +315,8 @@ def main(arguments):
         return 0
     if arguments[:1] == ["--sample"]:
         return write_stored_run("signed_programs.py --sample", sample_files, arguments[1:])
+    if arguments[:1] == ["--program"]:
+        return write_stored_run("signed_programs.py --program", program_files, arguments[1:])
     if len(arguments) == 3 and arguments[0] == "--write":
         return write_one(*arguments[1:])
     if arguments == ["--make"]:
