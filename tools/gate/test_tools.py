@@ -34,8 +34,7 @@ from cases.hostile_inputs import ROWS
 from common import folders
 from common.openssl import OpensslError, openssl
 from gate import run_program, unused_calls
-from golden import compare_basic, compare_check, compare_readers, reader_stand_in, xgolden_basic, xgolden_check, xgolden_kept, xgolden_path, xgolden_pe, xgolden_pe_image
-from golden import compare_basic, compare_check, compare_readers, reader_stand_in, xgolden_anchor, xgolden_basic, xgolden_check, xgolden_kept, xgolden_path, xgolden_pe
+from golden import compare_basic, compare_check, compare_readers, reader_stand_in, xgolden_anchor, xgolden_basic, xgolden_check, xgolden_histories, xgolden_kept, xgolden_path, xgolden_pe, xgolden_pe_image
 from golden.compare_readers import Comparison, block_line, case_file, cases_of, inputs, spelled
 from golden.xgolden_der import stored_files
 from golden.xgolden_value import stored_files as stored_values
@@ -295,6 +294,13 @@ class AnchoredPathsTest(unittest.TestCase):
     def test_stored_files(self):
         for path, octets in xgolden_anchor.stored_files().items():
             self.assertEqual((folders.CRATES / "xgolden_anchor" / path).read_bytes(), octets, path)
+
+
+class IssuingHistoriesTest(unittest.TestCase):
+
+    def test_stored_files(self):
+        for path, octets in xgolden_histories.stored_files().items():
+            self.assertEqual((folders.CRATES / "xgolden_histories" / path).read_bytes(), octets, path)
 
 
 class ProgramPartsTest(unittest.TestCase):
