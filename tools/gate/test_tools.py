@@ -328,7 +328,7 @@ class SignedFilesTest(unittest.TestCase):
     def test_names_of_refusals(self):
         octets = min((image.octets for image in signed_images.stored()), key=len)
         for program, name in (
-            (b"", "NotMz"), (octets[:64], "NotPe"), (octets[:-1], "TableOutside"), (octets[:152] + b"\1" + octets[153:], "WrongMagic"),
+            (b"", "NotMz"), (octets[:64], "NotPe"), (octets[:-1], "TableOutside"), (signed_files.changed(octets, 88), "WrongMagic"),
         ):
             self.assertEqual(signed_files.expected(program, "", "20300101000000"), f"refused {name}")
 
