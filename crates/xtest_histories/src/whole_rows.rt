@@ -21,7 +21,8 @@ pub(crate) struct WholeRow {
 impl WholeRow {
     /// Whether the row is this signature.
     fn is_of(&self, alg: SigAlg, key: &[u8], msg: &[u8], sig: &[u8]) -> bool
-        ensures { result ≡ is_row_of alg key.now msg.now sig.now self.now }
+        ensures { result ≡ is_row_of alg key.now msg.now sig.now
+            self.now.alg self.now.key self.now.msg self.now.sig }
     {
         alg.name() == self.alg.name()
             && key == self.key.as_slice()
@@ -62,7 +63,9 @@ impl WholeRows {
 
     /// Whether some row is this signature.
     fn has(&self, alg: SigAlg, key: &[u8], msg: &[u8], sig: &[u8]) -> bool
-        ensures { result ≡ list_any (is_row_of alg key.now msg.now sig.now) self.now.rows.items }
+        ensures { result ≡ list_any
+            (λ row. is_row_of alg key.now msg.now sig.now row.alg row.key row.msg row.sig)
+            self.now.rows.items }
     {
         self.rows.iter().any(|row| row.is_of(alg, key, msg, sig))
     }
@@ -73,7 +76,9 @@ impl Scheme for WholeRows {
     ghost use Rattle.std.proofs.lemmas.Option.{none-some};
 
     ghost judge = { λ scheme alg key msg sig.
-        if list_any (is_row_of alg key msg sig) scheme.rows.items then Accept else Reject };
+        if list_any (λ row. is_row_of alg key msg sig row.alg row.key row.msg row.sig)
+        scheme.rows.items
+        then Accept else Reject };
 
     ghost signs = { λ _ _ _ _. false };
 
