@@ -32,7 +32,7 @@ fn path_to_a_root(rt: HostRuntime) -> Result<(), Fail> {
         let path = path_of(alloc, &leaf, &others, root, &date, &DemoScheme::new())?;
         assert!(rt; path.is_some());
         if let Some(path) = path {
-            assert_eq!(rt; path.pool.as_slice(), &[1]);
+            assert_eq!(rt; path.pool.as_slice(), [1].as_slice());
             assert_eq!(rt; path.anchor, 0);
         }
     }
@@ -69,7 +69,7 @@ fn pool_is_limited(rt: HostRuntime) -> Result<(), Fail> {
         let path = path_of(alloc, &leaf, &others, root, &date, &scheme)?;
         assert!(rt; path.is_some());
         if let Some(path) = path {
-            assert_eq!(rt; path.pool.as_slice(), &[255]);
+            assert_eq!(rt; path.pool.as_slice(), [255].as_slice());
         }
         others.push(certificate(alloc, INT)?)?;
         let root = certificate(alloc, ROOT)?;
