@@ -1,0 +1,9 @@
+-- The text of a path.
+use Rattle.std.specs.Prelude.{ℕ, List, ◌++◌, codes, decimal}
+use Rattle.x509_core.specs.PlacesText.{places_text}
+use Rattle.trust_anchors.specs.declared.path.AnchoredPath.{AnchoredPath}
+
+-- pool=P,P anchor=A
+abbrev pub path_text : AnchoredPath → List ℕ
+path_text path =
+    codes "pool=" ++ places_text path.pool ++ codes " anchor=" ++ decimal path.anchor
