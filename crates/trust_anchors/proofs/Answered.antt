@@ -1,5 +1,5 @@
 -- A report of an answer is a report of each answer, and an acceptance reports the first path.
-use Rattle.std.proofs.Common.{◌≡◌, ℕ, ◌+◌, ◌≤◌, List, [], ◌∷◌, length, map, Option, Some, None, MatchOption, Result, Ok, Err, refl, sym, ap, subst, ◌∙◌, arith}
+use Rattle.std.proofs.Common.{◌≡◌, ℕ, ◌≤◌, List, [], ◌∷◌, length, map, Option, Some, None, MatchOption, Result, Ok, Err, sym, subst, ◌∙◌, arith}
 use Rattle.std.specs.Prelude.{string_bytes}
 use Rattle.std.proofs.lemmas.List.Sums.{sum_by-cons}
 use Rattle.key_core.specs.Verifying.{Judge}
@@ -17,7 +17,7 @@ use Rattle.program_frame.specs.Run.{IsRunAnswer}
 use Rattle.program_frame.specs.Shelf.{ShelfState}
 use Rattle.program_frame.specs.Sink.{Appends}
 use Rattle.trust_anchors.specs.AnchoredPath.{HasNoPath, IsAnchoredPath}
-use Rattle.trust_anchors.specs.Answer.{AreGiven, IsAnswerTo, IsFoundAmong, IsSearchResult, certificates_in, code_anchor, command, report_line, status_of, table_in}
+use Rattle.trust_anchors.specs.Answer.{AreGiven, IsAnswerTo, IsSearchResult, certificates_in, code_anchor, command, report_line, status_of, table_in}
 use Rattle.trust_anchors.specs.FirstPath.{IsFirstPath}
 use Rattle.trust_anchors.specs.Inquiry.{IsReportOf, IsReported, Reports}
 use Rattle.trust_anchors.specs.Reported.{IsReportedPath}

@@ -1,5 +1,5 @@
 -- Octets are those of one list of certificates, so a job has one answer.
-use Rattle.std.proofs.Common.{◌≡◌, ℕ, List, [], ◌∷◌, ◌++◌, length, map, Result, Ok, Err, refl, sym, ap, ap₂, subst, ◌∙◌, arith}
+use Rattle.std.proofs.Common.{◌≡◌, ℕ, List, [], ◌∷◌, ◌++◌, length, map, refl, sym, ap₂, subst, ◌∙◌, arith}
 use Rattle.std.proofs.Math.Logic.{∥∥₁_elim}
 use Rattle.der_core.specs.Refusals.{RefusesOctets}
 use Rattle.der_core.specs.declared.error.DerError.{DerError}
@@ -11,7 +11,7 @@ use Rattle.x509_types.specs.CertificateElements.{certificate_of}
 use Rattle.x509_types.specs.declared.certificate.Certificate.{Certificate}
 use Rattle.x509_core.specs.KeptCertificate.{KeptCertificate, kept_octets}
 use Rattle.x509_core.specs.Facts.Certs.{kept_once}
-use Rattle.trust_anchors.specs.Answer.{AreGiven, HasUnread, IsAnswerTo, IsFoundAmong, IsPathOf, IsSearchResult, code_anchor}
+use Rattle.trust_anchors.specs.Answer.{HasUnread, IsAnswerTo, IsFoundAmong, IsPathOf, IsSearchResult, code_anchor}
 use Rattle.trust_anchors.specs.Words.{Job}
 use Rattle.trust_anchors.specs.declared.report.Answer.{Answer}
 use Rattle.trust_anchors.specs.declared.report.Answer.TheVariants.{Anchored, NoPath, Unread}

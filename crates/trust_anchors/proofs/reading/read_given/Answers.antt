@@ -1,4 +1,4 @@
-use Rattle.std.proofs.Common.{◌∷◌, [], ◌+◌, ◌-◌, List, ℕ, length, map, take, drop, refl, sym, ap, arith}
+use Rattle.std.proofs.Common.{◌∷◌, [], ◌+◌, ◌-◌, List, ℕ, length, map, take, drop, sym, ap, arith}
 use Rattle.std.proofs.lemmas.Result.{err_from_is_err_and}
 use Rattle.trust_anchors.proofs.ReadFiles.{are_given, count_front, front_of, split_by, unread_among, unread_behind}
 use Rattle.trust_anchors.proofs.reading.read_given.Goals as goal
