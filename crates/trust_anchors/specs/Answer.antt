@@ -9,7 +9,7 @@ use Rattle.program_frame.specs.Run.{Program}
 use Rattle.program_frame.specs.Statuses as statuses
 use Rattle.trust_anchors.specs.AnchoredPath.{HasNoPath, IsAnchoredPath}
 use Rattle.trust_anchors.specs.FirstPath.{IsFirstPath}
-use Rattle.trust_anchors.specs.PathText.{path_text}
+use Rattle.trust_anchors.specs.PathText.{anchored_line}
 use Rattle.trust_anchors.specs.Words.{AsksFor, Job, files_of}
 use Rattle.trust_anchors.specs.declared.anchor.Anchor.{Anchor}
 use Rattle.trust_anchors.specs.declared.path.AnchoredPath.{AnchoredPath}
@@ -71,10 +71,6 @@ IsAnswerTo judge job octets (Anchored path) = IsFoundAmong judge job octets (Anc
 IsAnswerTo judge job octets NoPath = IsFoundAmong judge job octets NoPath
 
 -- ---- the line
-
--- anchored pool=P,P anchor=A
-abbrev pub anchored_line : AnchoredPath → List ℕ
-anchored_line path = codes "anchored " ++ path_text path ++ newline ∷ []
 
 -- the line that reports an answer
 abbrev pub report_line : Answer → List ℕ

@@ -1,8 +1,8 @@
 //! The line that a run reports, and its status.
 
 ghost use Rattle.std.specs.Prelude.{◌≡◌, IfOk, string_bytes};
-ghost use Rattle.trust_anchors.specs.Answer.{anchored_line};
 ghost use Rattle.trust_anchors.specs.Inquiry.{IsReportOf};
+ghost use Rattle.trust_anchors.specs.PathText.{anchored_line};
 
 use crate::path::AnchoredPath;
 use program_frame::{ACCEPTED, REFUSED, Report};
