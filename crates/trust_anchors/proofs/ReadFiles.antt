@@ -1,5 +1,5 @@
 -- Reading the certificates of the files, one after another.
-use Rattle.std.proofs.Common.{◌≡◌, ℕ, zero, suc, ◌+◌, ◌<◌, ◌≤◌, List, [], ◌∷◌, ◌++◌, map, length, get_or, take, drop, append_assoc, refl, sym, ap, ap₂, subst, ◌∙◌, arith}
+use Rattle.std.proofs.Common.{◌≡◌, ℕ, zero, suc, ◌+◌, ◌<◌, ◌≤◌, List, [], ◌∷◌, ◌++◌, map, length, length-append, get_or, take, drop, append_assoc, refl, sym, ap, ap₂, subst, ◌∙◌, arith}
 use Rattle.std.proofs.lemmas.List.{map-append, take_all, take-append-drop}
 use Rattle.der_core.specs.Refusals.{RefusesOctets}
 use Rattle.key_core.specs.declared.element.Element.TheVariants as elements
@@ -122,6 +122,14 @@ same_length [] [] are = refl
 same_length [] (o ∷ octets) are = absurd cc
 same_length (r ∷ read) [] are = absurd cc
 same_length (r ∷ read) (o ∷ octets) are = ap suc (same_length read octets (cc))
+
+-- the pool has a certificate for each file behind those of the anchors and of the certificate
+pub count_pool : (number : ℕ) (octets : List (List ℕ)) (anchors : List KeptCertificate) (checked : KeptCertificate) (pool : List KeptCertificate) → AreGiven number octets anchors checked pool
+    → number + 1 + length pool ≡ length octets
+count_pool number octets anchors checked pool given =
+    let all : length (anchors ++ checked ∷ pool) ≡ length octets = same_length (anchors ++ checked ∷ pool) octets given.are in
+    let both = length-append anchors (checked ∷ pool) in
+    omega (arith, all, both, given.count)
 
 -- what was read is given
 pub are_given : (number : ℕ) (front : List (List ℕ)) (octets : List ℕ) (back all : List (List ℕ)) (store : List Anchor) (checked : KeptCertificate) (pool before : List KeptCertificate) (none : List Anchor)

@@ -1,6 +1,6 @@
 -- A job, as the program stores it.
 use Rattle.std.specs.Prelude.{◌+◌, ◌∷◌, map, string_bytes}
-use Rattle.trust_anchors.specs.declared.words.Job.{Job as HeldJob}
+use Rattle.trust_anchors.specs.declared.job.Job.{Job as HeldJob}
 use Rattle.trust_anchors.specs.Words.{Job}
 
 -- the job

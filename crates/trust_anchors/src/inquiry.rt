@@ -11,9 +11,11 @@ ghost use Rattle.trust_anchors.specs.Inquiry.{Inquires, Reports};
 ghost use Rattle.trust_anchors.specs.Jobs.{job_held};
 ghost use Rattle.trust_anchors.specs.Words.{AsksFor, AsksForNothing, Job as AskedJob, files_of};
 
+use crate::error::AnchorError;
+use crate::job::Job;
 use crate::reading::{Given, ReadError, read_given};
 use crate::report::{Answer, report_of};
-use crate::words::{Job, job_of};
+use crate::words::job_of;
 use program_frame::{Contents, Names, Report, Shelf, Stop, Task, answer};
 use sig_core::{Scheme, VerdictTable};
 use std::alloc::Global;
@@ -66,6 +68,7 @@ fn report_by<S: Scheme>(
     read: &Contents,
     scheme: &S,
 ) -> Result<Report, Stop>
+    requires { length (contents_held read.now) ≡ length (files_of (job_held asked.now)) }
     ensures { Reports (IsAnswerTo (S.judge scheme.now) (job_held asked.now)
         (certificates_in (contents_held read.now))) result }
 {
@@ -80,6 +83,7 @@ fn answer_by<S: Scheme>(
     read: &Contents,
     scheme: &S,
 ) -> Result<Answer, Stop>
+    requires { length (contents_held read.now) ≡ length (files_of (job_held asked.now)) }
     ensures answer { IfOk result (IsAnswerTo (S.judge scheme.now) (job_held asked.now)
         (certificates_in (contents_held read.now))) }
     ensures stopped { IfErr result (λ stop. stop ≡ Stop.Memory) }
@@ -98,6 +102,7 @@ fn search<S: Scheme>(
     given: &Given,
     scheme: &S,
 ) -> Result<Answer, Stop>
+    requires { length given.now.pool.items ≤ 256 }
     ensures found { IfOk result (IsSearchResult (IsAnchoredPath (S.judge scheme.now) asked.now.date
         given.now.checked given.now.pool.items given.now.anchors asked.now.purpose)) }
     ensures stopped { IfErr result (λ stop. stop ≡ Stop.Memory) }
@@ -113,7 +118,7 @@ fn search<S: Scheme>(
     match found {
         Ok(Some(path)) => Ok(Answer::Anchored(path)),
         Ok(None) => Ok(Answer::NoPath),
-        // There are at most 32 certificates in the pool, so they aren't too many.
-        Err(_) => Err(Stop::Memory),
+        Err(AnchorError::TooMany { .. }) => unreachable!(),
+        Err(AnchorError::Memory) => Err(Stop::Memory),
     }
 }

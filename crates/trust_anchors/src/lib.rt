@@ -5,6 +5,7 @@
 mod anchor;
 mod error;
 mod inquiry;
+mod job;
 mod laws;
 mod path;
 mod program;

@@ -1,6 +1,6 @@
 //! Reading the certificates of the files.
 
-ghost use Rattle.std.specs.Prelude.{◌≡◌, ◌≢◌, ◌+◌, ◌∷◌, [], List, map, IfErr, IfOk, OnOk};
+ghost use Rattle.std.specs.Prelude.{◌≡◌, ◌≢◌, ◌+◌, ◌<◌, ◌++◌, ◌∷◌, [], List, length, map, IfErr, IfOk, OnOk};
 ghost use Rattle.x509_core.specs.KeptCertificate.{KeptCertificate, kept_octets};
 ghost use Rattle.x509_core.specs.declared.error.CertError.TheVariants as errors;
 ghost use Rattle.trust_anchors.specs.Answer.{AreGiven, code_anchor};
@@ -19,15 +19,6 @@ pub(crate) enum ReadError {
     NoCertificate,
     /// Out of memory.
     Memory,
-}
-
-impl From<AnchorError> for ReadError {
-    ghost from_gives = { λ _ e. e ≡ unread.Memory };
-
-    // There are at most 8 anchors, so they aren't too many.
-    fn from(_error: AnchorError) -> ReadError {
-        ReadError::Memory
-    }
 }
 
 impl<T: Drop> From<AllocFailed<T>> for ReadError {
@@ -54,6 +45,8 @@ pub(crate) fn read_given(
     others: &[Vec<u8>],
     more: usize,
 ) -> Result<Given, ReadError>
+    requires few { more < 64 }
+    requires enough { more < length others.now }
     ensures read { IfOk result (λ given. (anchors : List KeptCertificate)
         × (given.anchors ≡ map code_anchor anchors)
         × AreGiven (more + 1) (first.now ∷ map (λ octets. octets.items) others.now)
@@ -61,10 +54,6 @@ pub(crate) fn read_given(
     ensures unread { IfErr result
         (IsUnread (first.now ∷ map (λ octets. octets.items) others.now)) }
 {
-    // The files of a job are more than that.
-    if others.len() <= more {
-        return Err(ReadError::Memory);
-    }
     let mut anchors = AnchorStore::new(alloc);
     read_anchors(alloc, first, &others[..more], &mut anchors)?;
     let checked = read_certificate(alloc, &others[more])?;
@@ -84,17 +73,31 @@ fn read_anchors(
     others: &[Vec<u8>],
     anchors: &mut AnchorStore,
 ) -> Result<(), ReadError>
+    requires { length anchors.old + length others.now < 64 }
     ensures read { OnOk result (AppendsAnchors anchors.old anchors.new
         (first.now ∷ map (λ octets. octets.items) others.now)) }
     ensures unread { IfErr result
         (IsUnread (first.now ∷ map (λ octets. octets.items) others.now)) }
 {
     let certificate = read_certificate(alloc, first)?;
-    anchors.add(certificate, true, false)?;
+    add_anchor(anchors, certificate)?;
     let [next, behind @ ..] = others else {
         return Ok(());
     };
     read_anchors(alloc, next, behind, anchors)
+}
+
+/// Adds an anchor that is trusted for signing code alone.
+fn add_anchor(anchors: &mut AnchorStore, certificate: Cert) -> Result<(), ReadError>
+    requires { length anchors.old < 64 }
+    ensures added { OnOk result (anchors.new ≡ anchors.old ++ code_anchor certificate ∷ []) }
+    ensures failed { IfErr result (λ error. error ≡ unread.Memory) }
+{
+    match anchors.add(certificate, true, false) {
+        Ok(()) => Ok(()),
+        Err(AnchorError::TooMany { .. }) => unreachable!(),
+        Err(AnchorError::Memory) => Err(ReadError::Memory),
+    }
 }
 
 /// Reads certificates and appends them.

@@ -6,26 +6,11 @@ ghost use Rattle.trust_anchors.specs.Words.{AsksFor, AsksForNothing, IsNumberWor
 ghost use Rattle.trust_anchors.specs.declared.anchor.Purpose.{Purpose as AskedPurpose};
 
 use crate::anchor::Purpose;
-use names_core::UtcDate;
+use crate::job::Job;
 use program_frame::date_of;
 
 /// The maximal number of certificates in the pool.
 const MOST_IN_POOL: usize = 32;
-
-/// What the words request: a path from a certificate to an anchor that serves the purpose, at a
-/// date.
-#[derive(Clone, Copy, Debug)]
-pub(crate) struct Job<'a> {
-    pub(crate) table: &'a str,
-    pub(crate) purpose: Purpose,
-    pub(crate) date: UtcDate,
-    /// The number of anchors after the first.
-    pub(crate) more: usize,
-    /// The first anchor.
-    pub(crate) first: &'a str,
-    /// The other anchors, then the certificate, then the pool.
-    pub(crate) others: &'a [String],
-}
 
 /// Parses the words. None exactly if they are no command.
 pub(crate) fn job_of(words: &[String]) -> Option<Job<'_>>
