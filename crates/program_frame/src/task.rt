@@ -20,8 +20,10 @@ pub trait Task {
     fn names(&self) -> Names<'_>
         ensures { names_held result ≡ (question self.now).files };
 
-    /// The report on the contents of the files, by the answer.
+    /// The report on the contents of the files, which are as many as the question has, by the
+    /// answer.
     fn report(&self, alloc: Global, read: &Contents) -> Result<Report, Stop>
+        requires { length (contents_held read.now) ≡ length (question self.now).files }
         ensures reported { IfOk result (λ report.
             (question self.now).IsAnswer (contents_held read.now) (line_of report)) }
         ensures low { IfOk result (λ report. report.status ≤ statuses.refused) }

@@ -5,3 +5,7 @@ pub mod Paths
 pub mod Turns
 pub mod Bounds
 pub mod PathExamples
+pub mod Certificates
+pub mod ReadFiles
+pub mod Answered
+pub mod AskedWords

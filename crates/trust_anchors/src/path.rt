@@ -1,5 +1,9 @@
 //! Paths to an anchor.
 
+ghost use Rattle.std.specs.Prelude.{Some};
+ghost use Rattle.trust_anchors.specs.PathText.{path_text};
+
+use std::fmt;
 use x509_core::Places;
 
 /// A path from a certificate to an anchor.
@@ -10,4 +14,13 @@ pub struct AnchoredPath {
     pub pool: Places,
     /// The index of the anchor, the last parent.
     pub anchor: usize,
+}
+
+/// Prints `pool=P,P anchor=A`: indices in decimal, those of the pool separated by commas.
+impl fmt::Display for AnchoredPath {
+    ghost output = { λ path. Some (path_text path) };
+
+    fn fmt<W: fmt::Write>(&self, f: &mut fmt::Formatter<W>) -> fmt::Result {
+        write!(f, "pool={} anchor={}", self.pool, self.anchor)
+    }
 }

@@ -1,0 +1,112 @@
+-- Octets are those of one list of certificates, so a job has one answer.
+use Rattle.std.proofs.Common.{◌≡◌, ℕ, List, [], ◌∷◌, ◌++◌, length, map, refl, sym, ap₂, subst, ◌∙◌, arith}
+use Rattle.std.proofs.Math.Logic.{∥∥₁_elim}
+use Rattle.der_core.specs.Refusals.{RefusesOctets}
+use Rattle.der_core.specs.declared.error.DerError.{DerError}
+use Rattle.der_core.specs.declared.error.DerError.TheVariants as der
+use Rattle.der_core.proofs.Exact.{no_fault_where_whole, whole_once}
+use Rattle.key_core.specs.Verifying.{Judge}
+use Rattle.x509_types.specs.Certificate.{IsCertificate}
+use Rattle.x509_types.specs.CertificateElements.{certificate_of}
+use Rattle.x509_types.specs.declared.certificate.Certificate.{Certificate}
+use Rattle.x509_core.specs.KeptCertificate.{KeptCertificate, kept_octets}
+use Rattle.x509_core.specs.Facts.Certs.{kept_once}
+use Rattle.trust_anchors.specs.Answer.{HasUnread, IsAnswerTo, IsFoundAmong, IsPathOf, IsSearchResult, code_anchor}
+use Rattle.trust_anchors.specs.Words.{Job}
+use Rattle.trust_anchors.specs.declared.report.Answer.{Answer}
+use Rattle.trust_anchors.specs.declared.report.Answer.TheVariants.{Anchored, NoPath, Unread}
+use Rattle.trust_anchors.proofs.Paths.{first_once}
+
+-- ---- octets that are a certificate are read as it
+
+same_certificate : (a b : KeptCertificate) → kept_octets a ≡ kept_octets b → a ≡ b
+same_certificate a b same = kept_once a b (whole_once (kept_octets a) (certificate_of a.elements) (certificate_of b.elements) a.der b.der refl same)
+
+same_certificates : (xs ys : List KeptCertificate) → map kept_octets xs ≡ map kept_octets ys → xs ≡ ys
+same_certificates [] [] same = refl
+same_certificates [] (y ∷ ys) same = absurd cc
+same_certificates (x ∷ xs) [] same = absurd cc
+same_certificates (x ∷ xs) (y ∷ ys) same =
+    let first = same_certificate x y (cc) in
+    let others = same_certificates xs ys (cc) in
+    cc
+
+spells_none : (kept : KeptCertificate) → ((c : Certificate) → IsCertificate (certificate_of kept.elements) c → ⊥) → ⊥
+spells_none kept none = ∥∥₁_elim kept.spelled (λ x y. absurd x) (λ are. none kept.certificate (record { elements = kept.elements; is = refl; spelled = are }))
+
+-- octets of a certificate are refused only when out of memory
+pub refused_for_memory : (kept : KeptCertificate) (octets : List ℕ) (source : DerError) → kept_octets kept ≡ octets → RefusesOctets IsCertificate octets source → source ≡ der.Memory
+refused_for_memory kept octets (der.Malformed m) is refused =
+    absurd (no_fault_where_whole octets (certificate_of kept.elements) m.at m.fault kept.der (sym is) refused)
+refused_for_memory kept octets der.Shape is refused =
+    let same = whole_once octets refused.element (certificate_of kept.elements) refused.der kept.der refused.encoded (sym is) in
+    absurd (spells_none kept (λ c spelled. refused.none c (subst (λ e. IsCertificate e c) (sym same) spelled)))
+refused_for_memory kept octets der.TooDeep is refused = absurd refused
+refused_for_memory kept octets der.TooLong is refused = absurd refused
+refused_for_memory kept octets der.Memory is refused = refl
+
+-- octets among those of certificates are a certificate's
+kept_behind : (certificates : List KeptCertificate) (ahead : List (List ℕ)) (octets : List ℕ) (behind : List (List ℕ)) → map kept_octets certificates ≡ ahead ++ octets ∷ behind
+    → (kept : KeptCertificate) × (kept_octets kept ≡ octets)
+kept_behind [] [] octets behind same = absurd cc
+kept_behind (kept ∷ certificates) [] octets behind same = (kept, cc)
+kept_behind [] (one ∷ ahead) octets behind same = absurd cc
+kept_behind (kept ∷ certificates) (one ∷ ahead) octets behind same = kept_behind certificates ahead octets behind (cc)
+
+-- if all are certificates, none is no certificate
+none_unread : (octets : List (List ℕ)) (certificates : List KeptCertificate) → map kept_octets certificates ≡ octets → HasUnread octets → ⊥
+none_unread octets certificates are h =
+    let kept = kept_behind certificates h.ahead h.unread h.behind (are ∙ h.are) in
+    h.isnt kept.0 kept.1
+
+-- ---- one answer
+
+split_once : {X : Type 0} (ks ls : List X) (c d : X) (ps qs : List X) → length ks ≡ length ls → ks ++ c ∷ ps ≡ ls ++ d ∷ qs → (ks ≡ ls) × (c ≡ d) × (ps ≡ qs)
+split_once [] [] c d ps qs many same = (refl, cc, cc)
+split_once [] (b ∷ ls) c d ps qs many same = absurd (omega (arith, many))
+split_once (a ∷ ks) [] c d ps qs many same = absurd (omega (arith, many))
+split_once (a ∷ ks) (b ∷ ls) c d ps qs many same =
+    let first : a ≡ b = cc in
+    let rest = split_once ks ls c d ps qs (omega (arith, many)) (cc) in
+    (ap₂ (λ x xs. x ∷ xs) first rest.0, rest.1, rest.2)
+
+module _ (judge : Judge) (job : Job) where
+  moved : (ks ls : List KeptCertificate) (c d : KeptCertificate) (ps qs : List KeptCertificate) (answer : Answer) → ks ≡ ls → c ≡ d → ps ≡ qs
+      → IsSearchResult (IsPathOf judge job ls d qs) answer → IsSearchResult (IsPathOf judge job ks c ps) answer
+  moved ks ls c d ps qs answer anchors checked pool h =
+      subst (λ (x : List KeptCertificate). IsSearchResult (IsPathOf judge job x c ps) answer) (sym anchors)
+      (subst (λ (x : KeptCertificate). IsSearchResult (IsPathOf judge job ls x ps) answer) (sym checked)
+      (subst (λ (x : List KeptCertificate). IsSearchResult (IsPathOf judge job ls d x) answer) (sym pool) h))
+
+  one_result : (ks : List KeptCertificate) (c : KeptCertificate) (ps : List KeptCertificate) (a b : Answer)
+      → IsSearchResult (IsPathOf judge job ks c ps) a → IsSearchResult (IsPathOf judge job ks c ps) b → a ≡ b
+  one_result ks c ps (Anchored p) (Anchored q) h k =
+      let same = first_once judge job.date c ps (map code_anchor ks) job.purpose p q h k in
+      λ i. Anchored (same i)
+  one_result ks c ps (Anchored p) NoPath h k = absurd (k p h.is)
+  one_result ks c ps NoPath (Anchored q) h k = absurd (h q k.is)
+  one_result ks c ps NoPath NoPath h k = refl
+  one_result ks c ps Unread b h k = absurd h
+  one_result ks c ps (Anchored p) Unread h k = absurd k
+  one_result ks c ps NoPath Unread h k = absurd k
+
+  module _ (octets : List (List ℕ)) where
+    one_found : (a b : Answer) → IsFoundAmong judge job octets a → IsFoundAmong judge job octets b → a ≡ b
+    one_found a b h k =
+        let all = same_certificates (h.anchors ++ h.checked ∷ h.pool) (k.anchors ++ k.checked ∷ k.pool) (h.given.are ∙ sym k.given.are) in
+        let same = split_once h.anchors k.anchors h.checked k.checked h.pool k.pool (h.given.count ∙ sym k.given.count) all in
+        one_result h.anchors h.checked h.pool a b h.found (moved h.anchors k.anchors h.checked k.checked h.pool k.pool b same.0 same.1 same.2 k.found)
+
+    not_unread : (a : Answer) → IsFoundAmong judge job octets a → HasUnread octets → ⊥
+    not_unread a h unread = none_unread octets (h.anchors ++ h.checked ∷ h.pool) h.given.are unread
+
+    pub one_answer : (a b : Answer) → IsAnswerTo judge job octets a → IsAnswerTo judge job octets b → a ≡ b
+    one_answer Unread Unread h k = refl
+    one_answer Unread (Anchored q) h k = absurd (not_unread (Anchored q) k h)
+    one_answer Unread NoPath h k = absurd (not_unread NoPath k h)
+    one_answer (Anchored p) Unread h k = absurd (not_unread (Anchored p) h k)
+    one_answer NoPath Unread h k = absurd (not_unread NoPath h k)
+    one_answer (Anchored p) (Anchored q) h k = one_found (Anchored p) (Anchored q) h k
+    one_answer (Anchored p) NoPath h k = one_found (Anchored p) NoPath h k
+    one_answer NoPath (Anchored q) h k = one_found NoPath (Anchored q) h k
+    one_answer NoPath NoPath h k = one_found NoPath NoPath h k
