@@ -1,4 +1,5 @@
 mod Drawing
+mod StepOrder
 mod Sizes
 mod Smallness
 mod StepSecrets

@@ -1,6 +1,7 @@
 -- The issuing history of a demonstration.
-use Rattle.std.specs.Prelude.{ℕ, ◌+◌, ◌*◌, ◌/◌, ◌%◌, ◌==◌, ◌||◌, not, if◌then◌else◌, List, Option, Some, None, map}
+use Rattle.std.specs.Prelude.{◌≡◌, ◌<◌, ℕ, ◌+◌, ◌*◌, ◌/◌, ◌%◌, ◌==◌, ◌||◌, not, if◌then◌else◌, List, Option, Some, None, map}
 use Rattle.std.specs.List.{range_with_len}
+use Rattle.asn1_types.specs.Calendar.{IsUtcYear}
 use Rattle.demo_core.specs.Draws.{drawn, state_after}
 use Rattle.demo_core.specs.declared.history.Step.{Step}
 
@@ -36,3 +37,10 @@ demo_step count index = step_from index (state_after count (4 * index))
 -- The history of so many steps.
 abbrev pub demo_history : ℕ → List Step
 demo_history count = map (demo_step count) (range_with_len 0 count)
+
+-- The step can be the one at this index: its issuer, if any, is an earlier one, and two digits
+-- represent its years (RFC 5280 4.1.2.5.1).
+pub record IsStepAt (index : ℕ) (step : Step) : Type 0 where
+  pub earlier : (issuer : ℕ) → step.issuer ≡ Some issuer → issuer < index
+  pub begins : IsUtcYear step.years.first
+  pub ends : IsUtcYear step.years.last

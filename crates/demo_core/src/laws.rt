@@ -43,7 +43,7 @@ ghost use Rattle.x509_issuing.specs.declared.builder.IssuerInfos.{IssuerInfos};
 ghost use Rattle.demo_core.specs.Builders.{IsStepBuilder};
 ghost use Rattle.demo_core.specs.Certificates.{signature_under, signer_of, step_certificate, step_elements, step_key, step_key_id, step_rsa_key, step_tbs};
 ghost use Rattle.demo_core.specs.declared.history.Step.{Step};
-ghost use Rattle.demo_core.specs.History.{demo_step};
+ghost use Rattle.demo_core.specs.History.{IsStepAt, demo_step};
 ghost use Rattle.demo_core.specs.Secrets.{AreStepKeys, demo_pair, signs_by_demo, step_secret};
 ghost use Rattle.demo_core.specs.Size.{size, AreSmall};
 
@@ -59,6 +59,12 @@ pub fn small_elements_are_written()
 pub fn certificates_are_small()
     ensures { (count index : ℕ) → index < count → count < 2 ^ 32
         → AreSmall (step_elements index (demo_step count index)) }
+{}
+
+/// Each step of a demonstration is issued by an earlier one, if by any, and two digits represent
+/// its years.
+pub fn steps_are_drawn_in_order()
+    ensures { (count index : ℕ) → IsStepAt index (demo_step count index) }
 {}
 
 /// The demonstration scheme derives the public key of a step from its private one, and signs with

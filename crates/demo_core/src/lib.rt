@@ -10,6 +10,6 @@ pub use history::{Step, Years, history_of};
 pub use laws::{
     certificates_are_small, secrets_have_keys, small_elements_are_written,
     step_certificates_are_determined, step_keys_are_determined,
-    step_keys_are_refused_for_memory_alone,
+    step_keys_are_refused_for_memory_alone, steps_are_drawn_in_order,
 };
 pub use secret::private_key_of;
