@@ -10,3 +10,6 @@ mod StepTbs
 mod StepInner
 mod StepBuilding
 mod StepRefusals
+mod StepSubjects
+mod StepBuilders
+mod StepCerts

@@ -69,7 +69,7 @@ is_encoded index key private = private.within.encoded ∙ ap encoding private.wi
 pub is_der : (index : ℕ) (key : PrivateKey) (private : IsPrivatePkcs1 (step_secret index) key) → IsDer (rsa_private_key private.rsa)
 is_der index key private = subst IsDer private.within.spelled private.within.der
 
-numbers_are : (index : ℕ) (rsa : RsaPrivateKey) → step_secret index ≡ encoding (rsa_private_key rsa) → IsDer (rsa_private_key rsa)
+pub numbers_are : (index : ℕ) (rsa : RsaPrivateKey) → step_secret index ≡ encoding (rsa_private_key rsa) → IsDer (rsa_private_key rsa)
     → (integer_contents rsa.n ≡ step_modulus index) × (integer_contents rsa.e ≡ 3 ∷ [])
 numbers_are index rsa encoded der =
     numbers_once (numbers_of rsa) (step_numbers index)

@@ -44,6 +44,21 @@ abbrev pub HasSubject : ℕ → Option ℕ → CertificateBuilder → IssuerInfo
 HasSubject index None b infos = infos.self_signed ≡ true
 HasSubject index (Some issuer) b infos = (infos.self_signed ≡ false) × IsIssuedTo index issuer b
 
+-- The builder has the validity, the CA flag and the path length of the step, and nothing else.
+pub record IsBegun (step : Step) (b : CertificateBuilder) : Type 0 where
+  pub begins : IsYearGiven step.years.first b.valid_from
+  pub ends : IsYearGiven step.years.last b.valid_to
+  pub ca : b.ca ≡ step.ca
+  pub path_length : b.pathlen ≡ step.path_length
+  pub serial_number : b.serial_number ≡ None
+  pub algorithm : b.signature_hash_type ≡ RsaPkcs1v15 SHA2_256
+  pub method : b.key_id_gen_method ≡ SPKFullDER SHA2_256
+  pub key_usage : b.key_usage ≡ None
+  pub extended_key_usage : b.extended_key_usage ≡ None
+  pub subject_alt_name : b.subject_alt_name ≡ None
+  pub issuer_alt_name : b.issuer_alt_name ≡ None
+  pub inherits : b.inherits ≡ false
+
 -- The builder has the validity, the CA flag, the path length, the subject and the issuer of the
 -- step, who has the keys of the step that signs, and nothing else.
 pub record IsStepBuilder (index : ℕ) (step : Step) (b : CertificateBuilder)

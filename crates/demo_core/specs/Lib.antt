@@ -6,3 +6,4 @@ pub mod Secrets
 pub mod Certificates
 pub mod Size
 pub mod Builders
+pub mod Issuing

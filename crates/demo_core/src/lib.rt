@@ -3,6 +3,7 @@
 
 mod generator;
 mod history;
+mod issuing;
 mod laws;
 mod secret;
 
