@@ -13,3 +13,5 @@ mod StepRefusals
 mod StepSubjects
 mod StepBuilders
 mod StepCerts
+mod Rereading
+mod StepHistories

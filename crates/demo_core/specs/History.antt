@@ -1,6 +1,6 @@
 -- The issuing history of a demonstration.
 use Rattle.std.specs.Prelude.{◌≡◌, ◌<◌, ℕ, ◌+◌, ◌*◌, ◌/◌, ◌%◌, ◌==◌, ◌||◌, not, if◌then◌else◌, List, Option, Some, None, map}
-use Rattle.std.specs.List.{range_with_len}
+use Rattle.std.specs.List.{range_with_len, slice_get}
 use Rattle.asn1_types.specs.Calendar.{IsUtcYear}
 use Rattle.demo_core.specs.Draws.{drawn, state_after}
 use Rattle.demo_core.specs.declared.history.Step.{Step}
@@ -44,3 +44,8 @@ pub record IsStepAt (index : ℕ) (step : Step) : Type 0 where
   pub earlier : (issuer : ℕ) → step.issuer ≡ Some issuer → issuer < index
   pub begins : IsUtcYear step.years.first
   pub ends : IsUtcYear step.years.last
+
+-- each step can be the one at its index
+abbrev pub AreInOrder : List Step → Type 0
+AreInOrder steps =
+    (index : ℕ) (step : Step) → slice_get steps index ≡ Some step → IsStepAt index step
