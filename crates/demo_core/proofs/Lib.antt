@@ -15,3 +15,5 @@ mod StepBuilders
 mod StepCerts
 mod Rereading
 mod StepHistories
+mod Counting
+mod Ancestors

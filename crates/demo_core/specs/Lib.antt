@@ -7,3 +7,4 @@ pub mod Certificates
 pub mod Size
 pub mod Builders
 pub mod Issuing
+pub mod Acceptance

@@ -1,6 +1,7 @@
 //! A demonstration of issuing: a history of steps drawn from a number.
 #![tactic(auto)]
 
+mod acceptance;
 mod certificates;
 mod generator;
 mod history;

@@ -1,0 +1,33 @@
+use Rattle.std.proofs.Common.{◌≡◌, List, Iter, Option, Some, Result, MatchResult, ap, subst, ◌∙◌}
+use Rattle.std.specs.Iterator.{AlwaysYields}
+use Rattle.std.proofs.lemmas.Fn.{fronts, slice_gives}
+use Rattle.sig_core.specs.DemoScheme.{demo_verdict}
+use Rattle.key_core.specs.Verifying.{Judge}
+use Rattle.x509_core.specs.Chain.{YieldsParents, IsAccepted, chain_rules, lent}
+use Rattle.x509_core.specs.Checks.{checks_at}
+use Rattle.x509_core.specs.KeptCertificate.{KeptCertificate}
+use Rattle.x509_core.specs.Rules.{RefusesCertBy}
+use Rattle.x509_core.specs.declared.error.CertError.{CertError}
+use Rattle.x509_core.specs.declared.validator.ChainChecks.{ChainChecks}
+use Rattle.x509_core.specs.declared.window.DateCheck.TheVariants as dates
+use Rattle.demo_core.proofs.acceptance.accept.Goals as goal
+
+-- the result is that of the configured checks for the configured certificate
+answer_of : {T : Type 0} (judge : Judge) (given : Option (List KeptCertificate)) (a b : ChainChecks) (x y : KeptCertificate) (r : Result T CertError) → a ≡ b → x ≡ y
+    → MatchResult r (λ _. IsAccepted judge a x given) (RefusesCertBy (chain_rules judge a x given))
+    → MatchResult r (λ _. IsAccepted judge b y given) (RefusesCertBy (chain_rules judge b y given))
+answer_of judge given a b x y r checks certificate h =
+    subst (λ (c : ChainChecks). MatchResult r (λ _. IsAccepted judge c y given) (RefusesCertBy (chain_rules judge c y given))) checks
+    (subst (λ (k : KeptCertificate). MatchResult r (λ _. IsAccepted judge a k given) (RefusesCertBy (chain_rules judge a k given))) certificate h)
+
+-- the configured iterator over these yields them in order
+given_by : (chain : Option (Iter KeptCertificate)) (iterator : Iter KeptCertificate) (parents : List KeptCertificate)
+    → chain ≡ Some iterator → iterator.rest.now ≡ parents → YieldsParents fronts chain (Some parents)
+given_by chain iterator parents is are = rw is (subst (AlwaysYields fronts lent iterator) are (slice_gives iterator))
+
+pub returns : goal.returns
+returns c =
+    answer_of demo_verdict (Some c.args.parents.now) _ _ _ _ c.verify.result
+    (c.chain.ensures.rest.0 ∙ c.exact_date.ensures.checks ∙ ap (checks_at (dates.Exact c.args.date.now)) c.verifier.ensures.checks)
+    (c.chain.ensures.rest.1 ∙ c.exact_date.ensures.rest.1 ∙ c.verifier.ensures.cert)
+    (c.verify.ensures.answer (Some c.args.parents.now) (λ asked. given_by c.chain.result.chain c.iter.result c.args.parents.now c.chain.ensures.chain c.iter.ensures.rest))
