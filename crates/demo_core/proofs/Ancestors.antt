@@ -1,5 +1,5 @@
 -- Walking from a step to its root, and what that says of the validation.
-use Rattle.std.proofs.Common.{◌≡◌, ◌↔◌, ◌<◌, ◌⊎◌, Bool, true, false, IsTrue, ℕ, ◌+◌, List, [], ◌∷◌, ◌++◌, length, Option, Some, None, inl, inr, refl, sym, ap, subst, ◌∙◌, arith}
+use Rattle.std.proofs.Common.{◌≡◌, ◌↔◌, ◌<◌, Bool, true, false, IsTrue, ℕ, List, [], ◌∷◌, ◌++◌, length, Option, Some, None, inl, inr, refl, sym, subst, ◌∙◌, arith}
 use Rattle.std.specs.List.{slice_get}
 use Rattle.asn1_types.specs.declared.generalized_time.GeneralizedTime.{GeneralizedTime}
 use Rattle.sig_core.specs.DemoScheme.{demo_verdict}
@@ -79,11 +79,12 @@ module _ (steps : List Step) (certificates : List KeptCertificate) where
   pub walked_more : (index at issuer : ℕ) (parents : List KeptCertificate) (cert : KeptCertificate) → IsWalked index at parents → at < length steps → IsIssuer at (Some issuer)
       → HasCert certificates issuer cert → IsWalked index issuer (parents ++ cert ∷ [])
   walked_more index at issuer parents cert walked within is has = λ history of.
-      let so_far = walked history of in
-      (so_far.0 ++ issuer ∷ [],
-      issuers_more history index so_far.0 at issuer so_far.1 so_far.2 (has_issuer history of at issuer within is),
-      last_more index so_far.0 issuer,
-      certs_more certificates so_far.0 parents issuer cert so_far.3 has)
+      let so_far = walked history of in (
+        so_far.0 ++ issuer ∷ [],
+        issuers_more history index so_far.0 at issuer so_far.1 so_far.2 (has_issuer history of at issuer within is),
+        last_more index so_far.0 issuer,
+        certs_more certificates so_far.0 parents issuer cert so_far.3 has,
+      )
 
   pub walked_whole : (index at : ℕ) (parents : List KeptCertificate) → IsWalked index at parents → at < length steps → IsIssuer at None → AreParents steps certificates index parents
   walked_whole index at parents walked within is = λ history of.
@@ -106,9 +107,10 @@ module _ (steps : List Step) (certificates : List KeptCertificate) where
       → AreParents steps certificates index parents
       → (IsTrue accepts ↔ IsAccepted demo_verdict (checks_at (dates.Exact date) first_checks) cert (Some parents)) → IsValidity steps certificates index date accepts
   validity_is index date cert parents accepts has are decides = λ history of.
-      let found = are history of in
-      (λ yes. valid demo_verdict history certificates date of.issued index found.0 cert parents found.1 has found.2 (decides.0 yes),
-      λ is. decides.1 (accepted demo_verdict history certificates date of.issued index found.0 cert parents found.1 has found.2 is))
+      let found = are history of in (
+        λ yes. valid demo_verdict history certificates date of.issued index found.0 cert parents found.1 has found.2 (decides.0 yes),
+        λ is. decides.1 (accepted demo_verdict history certificates date of.issued index found.0 cert parents found.1 has found.2 is),
+      )
 
 pub refused_is : (date : GeneralizedTime) (cert : KeptCertificate) (parents : List KeptCertificate) (e : CertError) → (e ≡ errors.Memory → ⊥)
     → RefusesCertBy (chain_rules demo_verdict (checks_at (dates.Exact date) first_checks) cert (Some parents)) e

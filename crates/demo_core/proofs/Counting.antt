@@ -1,5 +1,5 @@
 -- Counts grow by one number at a time.
-use Rattle.std.proofs.Common.{◌≡◌, ◌↔◌, ◌<◌, ◌≤◌, ◌⊎◌, Bool, true, false, IsTrue, ℕ, zero, suc, ◌+◌, inl, inr, refl, sym, subst, arith}
+use Rattle.std.proofs.Common.{◌≡◌, ◌↔◌, ◌<◌, ◌≤◌, Bool, true, false, IsTrue, ℕ, zero, suc, ◌+◌, inl, inr, refl, sym, subst, arith}
 use Rattle.demo_core.specs.Acceptance.{IsCount}
 
 module _ (P : ℕ → Type 0) where

@@ -17,3 +17,4 @@ mod Rereading
 mod StepHistories
 mod Counting
 mod Ancestors
+mod Whole

@@ -8,3 +8,4 @@ pub mod Size
 pub mod Builders
 pub mod Issuing
 pub mod Acceptance
+pub mod Demonstration

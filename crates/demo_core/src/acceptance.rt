@@ -116,12 +116,7 @@ fn is_accepted_over(
 }
 
 /// Validates the certificate over its parents, the nearest first, with all checks.
-fn accept(
-    alloc: Global,
-    checked: &Cert,
-    parents: &[Cert],
-    date: &UtcDate,
-) -> Result<(), CertError>
+fn accept(alloc: Global, checked: &Cert, parents: &[Cert], date: &UtcDate) -> Result<(), CertError>
     ensures { MatchResult result
         (λ _. IsAccepted demo_verdict (checks_at (dates.Exact date.now) first_checks) checked.now
         (Some parents.now))

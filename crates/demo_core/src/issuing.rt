@@ -84,7 +84,7 @@ fn begun<'a>(alloc: Global, step: Step) -> CertificateBuilder<'a>
 }
 
 /// The first second of the year.
-fn new_year(year: u16) -> UtcDate
+pub(crate) fn new_year(year: u16) -> UtcDate
     requires { IsUtcYear year }
     ensures { generalized_fields result ≡ year ∷ 1 ∷ 1 ∷ 0 ∷ 0 ∷ 0 ∷ [] }
 {

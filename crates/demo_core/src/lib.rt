@@ -3,12 +3,14 @@
 
 mod acceptance;
 mod certificates;
+mod demonstration;
 mod generator;
 mod history;
 mod issuing;
 mod laws;
 mod secret;
 
+pub use demonstration::{Demonstration, demonstrate};
 pub use history::{Step, Years, history_of};
 pub use laws::{
     certificates_are_small, secrets_have_keys, small_elements_are_written,

@@ -1,5 +1,5 @@
-use Rattle.std.proofs.Common.{◌∙◌, sym, subst, arith}
-use Rattle.demo_core.proofs.Ancestors.{IsWalked, issuer_earlier, issuer_has_cert, not_walked, walked_more, walked_whole}
+use Rattle.std.proofs.Common.{sym, subst, arith}
+use Rattle.demo_core.proofs.Ancestors.{IsWalked, issuer_earlier, issuer_has_cert, walked_more, walked_whole}
 use Rattle.demo_core.proofs.acceptance.ancestors_of.Goals as goal
 
 pub copy_at-requires : goal.copy_at-requires

@@ -1,0 +1,24 @@
+-- What a demonstration reports.
+use Rattle.std.specs.Prelude.{◌≡◌, ℕ, List, Some}
+use Rattle.asn1_types.specs.declared.generalized_time.GeneralizedTime.{GeneralizedTime}
+use Rattle.x509_core.specs.History.{IsValidAt}
+use Rattle.x509_core.specs.KeptCertificate.{KeptCertificate}
+use Rattle.demo_core.specs.Acceptance.{IsCount, IsRootAt}
+use Rattle.demo_core.specs.Builders.{IsYearGiven}
+use Rattle.demo_core.specs.Certificates.{demo_sum}
+use Rattle.demo_core.specs.History.{demo_history}
+use Rattle.demo_core.specs.Issuing.{AreStepCerts}
+use Rattle.demo_core.specs.declared.demonstration.Demonstration.{Demonstration}
+
+-- The certificates of the steps were issued, each the step's, element for element. The numbers are
+-- those of the steps, of the roots among them, and of the certificates that are valid at the first
+-- second of 2025, by the history that issued them; the sum is the SHA-256 of their octets.
+pub record IsDemonstration (count : ℕ) (d : Demonstration) : Type 0 where
+  pub steps : d.steps ≡ count
+  pub roots : IsCount (IsRootAt (demo_history count)) count d.roots
+  pub certificates : List KeptCertificate
+  pub made : AreStepCerts (demo_history count) count certificates
+  pub date : GeneralizedTime
+  pub dated : IsYearGiven 2025 (Some date)
+  pub accepted : IsCount (λ index. IsValidAt made.history index date) count d.accepted
+  pub sum : d.sum ≡ demo_sum count
