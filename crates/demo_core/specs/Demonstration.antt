@@ -1,5 +1,6 @@
 -- What a demonstration reports.
-use Rattle.std.specs.Prelude.{◌≡◌, ℕ, List, Some}
+use Rattle.std.specs.Prelude.{◌≡◌, ℕ, List, ◌++◌, Some, codes, decimal}
+use Rattle.hex.specs.Hex.{encode_lower}
 use Rattle.asn1_types.specs.declared.generalized_time.GeneralizedTime.{GeneralizedTime}
 use Rattle.x509_core.specs.History.{IsValidAt}
 use Rattle.x509_core.specs.KeptCertificate.{KeptCertificate}
@@ -22,3 +23,17 @@ pub record IsDemonstration (count : ℕ) (d : Demonstration) : Type 0 where
   pub dated : IsYearGiven 2025 (Some date)
   pub accepted : IsCount (λ index. IsValidAt made.history index date) count d.accepted
   pub sum : d.sum ≡ demo_sum count
+
+-- the counts of a report, in decimal
+abbrev pub counts_text : Demonstration → List ℕ
+counts_text d =
+    codes "demo steps=" ++ decimal d.steps ++ codes " roots=" ++ decimal d.roots
+    ++ codes " accepted=" ++ decimal d.accepted
+
+-- a digest, in lower-case hexadecimal
+abbrev pub sum_text : List ℕ → List ℕ
+sum_text sum = codes " sum=" ++ encode_lower sum
+
+-- the text of a report
+abbrev pub report_text : Demonstration → List ℕ
+report_text d = counts_text d ++ sum_text d.sum
