@@ -8,6 +8,8 @@ mod algorithms;
 #[cfg(test)]
 mod certificates;
 #[cfg(test)]
+mod counting;
+#[cfg(test)]
 mod histories;
 #[cfg(test)]
 mod issuing;

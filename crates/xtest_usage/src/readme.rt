@@ -20,7 +20,7 @@ mod of_private_key_types;
 mod of_program_frame;
 mod of_request_types;
 mod of_sig_core;
-mod of_trust_anchors;
+pub(crate) mod of_trust_anchors;
 mod of_trust_list;
 mod of_wincert_core;
 mod of_x509_core;
