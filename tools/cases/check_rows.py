@@ -146,7 +146,7 @@ BEFORE = [
         "FileHashMismatch", f"the signature is for a file with the digest {OTHER_HASH.hex()}, but that of the file is {FILE_HASH.hex()}"), True),
     ("a signer by its key", {"named": BY_KEY}, NAMED_BY_KEY, False),
     ("no certificate", {"named": named(b"Q")}, no_certificate("01", "Q"), False),
-    ("an unknown digest", {"digest": "1.2.3"}, refused("UnsupportedAlgorithmError", "the identifier names no supported digest algorithm"), True),
+    ("an unknown digest", {"digest": "1.2.3"}, refused("UnsupportedAlgorithmError", "the OID names no supported digest algorithm"), True),
     ("a signature that isn't accepted", {"accepted": None}, refused("SignatureError", "signature error: invalid signature"), True),
     ("no message digest", {"message_digests": ()}, refused("NoMessageDigest", "no message digest is among the signed attributes"), True),
     ("SHA-224", {"digest": "sha224"}, refused("UnsupportedHashAlgorithmError", "digests by SHA-224 are not supported"), True),

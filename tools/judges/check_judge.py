@@ -101,7 +101,7 @@ TEXTS = {
     "FileHashMismatch": "the signature is for a file with the digest {0}, but that of the file is {1}",
     "IncorrectSignerIdentifier": "the signer is named by the identifier of a key, and not by issuer and serial number",
     "NoCertificatesAssociatedWithIssuerAndSerialNumber": "the signed data has no certificate of the issuer '{1}' with the serial number {0}",
-    "UnsupportedAlgorithmError": "the identifier names no supported digest algorithm",
+    "UnsupportedAlgorithmError": "the OID names no supported digest algorithm",
     "SignatureError": "signature error: {0}",
     "NoMessageDigest": "no message digest is among the signed attributes",
     "UnsupportedHashAlgorithmError": "digests by SHA-224 are not supported",

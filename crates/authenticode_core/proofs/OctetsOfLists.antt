@@ -6,7 +6,7 @@ use Rattle.der_core.proofs.Exact.{no_fault_where_whole, whole_once}
 use Rattle.der_core.specs.Refusals.{RefusesOctets}
 use Rattle.der_core.specs.declared.error.DerError.{DerError}
 use Rattle.der_core.specs.declared.error.DerError.TheVariants as der
-use Rattle.authenticode_core.specs.ContentRefusal.{of_ctl, returned_of_content}
+use Rattle.authenticode_core.specs.ContentRefusal.{of_ctl, of_content}
 use Rattle.authenticode_core.specs.ListOctets.{IsTrustList, IsUnreadList}
 use Rattle.authenticode_core.specs.TrustList.{IsSignedData, unread_list}
 use Rattle.authenticode_core.specs.declared.ctl.CertificateTrustList.{CertificateTrustList}
@@ -32,4 +32,4 @@ for_memory octets list der.Memory is refused = refl
 pub unread_for_memory : (octets : List ℕ) (list : CertificateTrustList) (e : CheckError) → IsTrustList octets list → IsUnreadList octets e → e ≡ check.Memory
 unread_for_memory octets list e is unread =
     let source = for_memory octets list unread.1.0 is unread.1.2 in
-    unread.2 ∙ ap (λ c. returned_of_content (of_ctl c)) (unread.1.1 ∙ ap unread_list source)
+    unread.2 ∙ ap (λ c. of_content (of_ctl c)) (unread.1.1 ∙ ap unread_list source)

@@ -21,7 +21,7 @@ use Rattle.wincert_core.specs.Refusal.{contents_in}
 use Rattle.wincert_core.specs.declared.error.WinCertificateError.{WinCertificateError}
 use Rattle.x509_core.specs.declared.error.CertError.TheVariants.{Asn1Deserialization}
 use Rattle.authenticode_core.specs.Basic.{HasSignedData, IsNoSignedData, IsShapeless, IsMalformedPadded, IsUnreadSignature, RefusesValue}
-use Rattle.authenticode_core.specs.ContentRefusal.{returned_of_content}
+use Rattle.authenticode_core.specs.ContentRefusal.{of_content}
 use Rattle.authenticode_core.specs.SigningRules.{RefusesAuthenticodeBy}
 use Rattle.authenticode_core.specs.Trusted.{IsAnswer, IsTrusted, RefusesForm, asked, policy_rules, shape_rules}
 use Rattle.authenticode_core.specs.declared.accepted.Accepted.{Accepted}
@@ -64,7 +64,7 @@ named_once octets certificate e named refused = absurd cc
 
 -- ---- refusals are results
 
-returned_or_memory : (e : AuthenticodeError) → (returned_of_content e ≡ Authenticode e) ⊎ (e ≡ errors.Memory)
+returned_or_memory : (e : AuthenticodeError) → (of_content e ≡ Authenticode e) ⊎ (e ≡ errors.Memory)
 returned_or_memory (errors.CertError e) = inl refl
 returned_or_memory (errors.IncorrectVersion expected got) = inl refl
 returned_or_memory (errors.MultipleSignerInfo count) = inl refl
@@ -107,18 +107,18 @@ shape_is_answer judge policy octets (Authenticode e) (inl p) = inl p
 shape_is_answer judge policy octets (Authenticode e) (inr p) = inr (p.0, p.1, shape_in_policy judge policy p.0 e p.2)
 shape_is_answer judge policy octets Memory p = absurd p
 
-rules_returned : (judge : Judge) (policy : Policy) (octets : List ℕ) (f : SignedDataElements) (e : AuthenticodeError) → HasSignedData octets f → RefusesAuthenticodeBy (policy_rules judge policy f) e → (returned_of_content e ≡ Authenticode e) ⊎ (e ≡ errors.Memory)
-    → IsAnswer judge policy octets (Err (returned_of_content e))
+rules_returned : (judge : Judge) (policy : Policy) (octets : List ℕ) (f : SignedDataElements) (e : AuthenticodeError) → HasSignedData octets f → RefusesAuthenticodeBy (policy_rules judge policy f) e → (of_content e ≡ Authenticode e) ⊎ (e ≡ errors.Memory)
+    → IsAnswer judge policy octets (Err (of_content e))
 rules_returned judge policy octets f e has (inl broken) (inl returned) = rw returned (inr (f, has, broken))
 rules_returned judge policy octets f e has p (inr memory) = rw memory tt
 rules_returned judge policy octets f e has (inr memory) returned = rw memory tt
 
 -- by the rules, and out of memory
-pub refusal_is_answer : (judge : Judge) (policy : Policy) (octets : List ℕ) (f : SignedDataElements) (e : AuthenticodeError) → HasSignedData octets f → RefusesAuthenticodeBy (policy_rules judge policy f) e → IsAnswer judge policy octets (Err (returned_of_content e))
+pub refusal_is_answer : (judge : Judge) (policy : Policy) (octets : List ℕ) (f : SignedDataElements) (e : AuthenticodeError) → HasSignedData octets f → RefusesAuthenticodeBy (policy_rules judge policy f) e → IsAnswer judge policy octets (Err (of_content e))
 refusal_is_answer judge policy octets f e has p = rules_returned judge policy octets f e has p (returned_or_memory e)
 
 -- a refusal of the form is never out of memory
-shape_returned_so : (policy : Policy) (f : SignedDataElements) (e : AuthenticodeError) (b : Bool) → IsFirstBroken (asked b (shape_rules f policy.file_hash)) e → (returned_of_content e ≡ Authenticode e) ⊎ (e ≡ errors.Memory) → returned_of_content e ≡ Authenticode e
+shape_returned_so : (policy : Policy) (f : SignedDataElements) (e : AuthenticodeError) (b : Bool) → IsFirstBroken (asked b (shape_rules f policy.file_hash)) e → (of_content e ≡ Authenticode e) ⊎ (e ≡ errors.Memory) → of_content e ≡ Authenticode e
 shape_returned_so policy f e b broken (inl returned) = returned
 shape_returned_so policy f e true broken (inr memory) =
     absurd (none_returns (shape_rules f policy.file_hash) errors.Memory (shape_returns_no_memory f policy.file_hash) (subst (λ (x : AuthenticodeError). IsFirstBroken (shape_rules f policy.file_hash) x) memory broken))
@@ -200,7 +200,7 @@ module _ (at_most_one : FaultsAreOne) (exclude : FaultsExclude) where
 
   -- if there is signed data they are refused for its form
   pub refused_there : (policy : Policy) (octets : List ℕ) (f : SignedDataElements) (e : CheckError) → HasSignedData octets f → RefusesForm policy octets e
-      → (x : AuthenticodeError) × (returned_of_content x ≡ e) × IsFirstBroken (asked policy.basic (shape_rules f policy.file_hash)) x
+      → (x : AuthenticodeError) × (of_content x ≡ e) × IsFirstBroken (asked policy.basic (shape_rules f policy.file_hash)) x
   refused_there policy octets f (Win e) has p = absurd (named_once octets has.certificate e has.named p)
   refused_there policy octets f (Authenticode e) has (inl p) = absurd (signed_data_is_read octets e f p has)
   refused_there policy octets f (Authenticode e) has (inr p) =
@@ -262,7 +262,7 @@ module _ (at_most_one : FaultsAreOne) (exclude : FaultsExclude) where
 
     -- why the signed data is refused, its form first
     pub refused_behind : (r : Result Accepted CheckError) (f : SignedDataElements) (given : Result Accepted AuthenticodeError) → HasSignedData octets f
-        → ((x : AuthenticodeError) → IsFirstBroken (asked policy.basic (shape_rules f policy.file_hash)) x → given ≡ Err x) → ((x : AuthenticodeError) → given ≡ Err x → r ≡ Err (returned_of_content x))
+        → ((x : AuthenticodeError) → IsFirstBroken (asked policy.basic (shape_rules f policy.file_hash)) x → given ≡ Err x) → ((x : AuthenticodeError) → given ≡ Err x → r ≡ Err (of_content x))
         → (e : CheckError) → RefusesForm policy octets e → r ≡ Err e
     refused_behind r f given has shape so e k =
         let there = refused_there policy octets f e has k in

@@ -88,21 +88,21 @@ lacks_signer f spelled none = no_signer_in f (signers_of f) spelled refl none
 
 -- ---- what is reported of certificates
 
-pub returned_of_certificates : (e : CertError) → (of_certificates e ≡ errors.CertError e) ⊎ (e ≡ cert_errors.Memory)
-returned_of_certificates (cert_errors.CertGeneration source) = inl refl
-returned_of_certificates (cert_errors.InvalidCertificate id source) = inl refl
-returned_of_certificates (cert_errors.Asn1Serialization element source) = inl refl
-returned_of_certificates (cert_errors.Asn1Deserialization element source) = inl refl
-returned_of_certificates (cert_errors.Signature source) = inl refl
-returned_of_certificates (cert_errors.KeyIdGen source) = inl refl
-returned_of_certificates (cert_errors.InvalidChain source) = inl refl
-returned_of_certificates (cert_errors.InvalidCsr source) = inl refl
-returned_of_certificates (cert_errors.ExtensionNotFound name) = inl refl
-returned_of_certificates (cert_errors.MissingBuilderArgument arg) = inl refl
-returned_of_certificates (cert_errors.CertificateNotYetValid not_before now) = inl refl
-returned_of_certificates (cert_errors.CertificateExpired not_after now) = inl refl
-returned_of_certificates (cert_errors.PrivateKeyToPublicKey source) = inl refl
-returned_of_certificates cert_errors.Memory = inr refl
+pub certificates_or_memory : (e : CertError) → (of_certificates e ≡ errors.CertError e) ⊎ (e ≡ cert_errors.Memory)
+certificates_or_memory (cert_errors.CertGeneration source) = inl refl
+certificates_or_memory (cert_errors.InvalidCertificate id source) = inl refl
+certificates_or_memory (cert_errors.Asn1Serialization element source) = inl refl
+certificates_or_memory (cert_errors.Asn1Deserialization element source) = inl refl
+certificates_or_memory (cert_errors.Signature source) = inl refl
+certificates_or_memory (cert_errors.KeyIdGen source) = inl refl
+certificates_or_memory (cert_errors.InvalidChain source) = inl refl
+certificates_or_memory (cert_errors.InvalidCsr source) = inl refl
+certificates_or_memory (cert_errors.ExtensionNotFound name) = inl refl
+certificates_or_memory (cert_errors.MissingBuilderArgument arg) = inl refl
+certificates_or_memory (cert_errors.CertificateNotYetValid not_before now) = inl refl
+certificates_or_memory (cert_errors.CertificateExpired not_after now) = inl refl
+certificates_or_memory (cert_errors.PrivateKeyToPublicKey source) = inl refl
+certificates_or_memory cert_errors.Memory = inr refl
 
 undated_returned : (policy : Policy) (cause : CertError) → LacksDate (policy_checks policy) cause → of_certificates cause ≡ errors.CertError cause
 undated_returned policy cause lacks = ap of_certificates lacks.2 ∙ sym (ap errors.CertError lacks.2)
@@ -285,7 +285,7 @@ module _ (judge : Judge) (policy : Policy) (f : SignedDataElements) where
     unvouched_returned x cause valid asked unlinked (inr memory) = inr (ap of_certificates memory)
 
     pub unvouched : (x : Excuse) (cause : CertError) → IsValidOrExcusable judge policy f bag signer.elements x → IsTrue policy.chain → IsUnlinkedPath judge (window_of policy) bag signer cause → RefusesAuthenticodeBy (valid_and_vouched_rules judge policy f) (of_certificates cause)
-    unvouched x cause valid asked unlinked = unvouched_returned x cause valid asked unlinked (returned_of_certificates cause)
+    unvouched x cause valid asked unlinked = unvouched_returned x cause valid asked unlinked (certificates_or_memory cause)
 
     -- ---- certificates that aren't valid
 

@@ -17,14 +17,14 @@ use Rattle.authenticode_core.specs.declared.error.CheckError.{CheckError}
 use Rattle.authenticode_core.specs.declared.error.CheckError.TheVariants.{Authenticode, Win, Memory}
 
 -- the error for one of a header; out of memory is reported as such, here and below
-abbrev pub returned_of_header : WinCertificateError → CheckError
-returned_of_header headers.Memory = Memory
-returned_of_header e = Win e
+abbrev pub of_header : WinCertificateError → CheckError
+of_header headers.Memory = Memory
+of_header e = Win e
 
 -- the error for one of signed data
-abbrev pub returned_of_content : AuthenticodeError → CheckError
-returned_of_content contents.Memory = Memory
-returned_of_content e = Authenticode e
+abbrev pub of_content : AuthenticodeError → CheckError
+of_content contents.Memory = Memory
+of_content e = Authenticode e
 
 -- the error for one of certificates
 abbrev pub of_certificates : CertError → AuthenticodeError

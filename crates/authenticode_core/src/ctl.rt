@@ -6,7 +6,7 @@ ghost use Rattle.cms_types.specs.declared.signed_data.pkcs7.Pkcs7Certificate.{Pk
 ghost use Rattle.der_core.specs.DerElement.{DerElement};
 ghost use Rattle.der_core.specs.Encoding.{encoding, IsDer};
 ghost use Rattle.der_core.specs.Reading.{IsExactFault};
-ghost use Rattle.der_core.specs.Refusals.{RefusesOctets, Returns};
+ghost use Rattle.der_core.specs.Refusals.{RefusesOctets, Wraps};
 ghost use Rattle.der_core.specs.Rules.{IsFirstBroken};
 ghost use Rattle.der_core.specs.Structure.{IsWithin};
 ghost use Rattle.der_core.specs.declared.error.DerError.TheVariants as der_errors;
@@ -53,7 +53,7 @@ impl CertificateTrustList {
     pub fn from_der(alloc: Global, der: &[u8]) -> Result<CertificateTrustList, CtlError>
         ensures answer { MatchResult result
             (λ list. IsWithin IsSignedData der.now list.signed)
-            (Returns unread_list (RefusesOctets IsSignedData der.now)) }
+            (Wraps unread_list (RefusesOctets IsSignedData der.now)) }
         // Octets with a fault are refused with it, even when memory runs out.
         ensures faulty { (at : ℕ) (fault : DerFault) → IsExactFault der.now at fault
             → result

@@ -3,7 +3,7 @@
 ghost use Rattle.std.specs.Prelude.{◌≡◌, IfOk, string_bytes, Some};
 ghost use Rattle.std.specs.Fmt.{WritesOnOk};
 ghost use Rattle.authenticode_core.specs.ErrorText.{check_error_text, content_error_text, file_mismatch_text, mismatch_text, unnamed_text};
-ghost use Rattle.authenticode_core.specs.ContentRefusal.{of_certificates, of_char_set, of_ctl, of_der, of_signatures, returned_of_content, returned_of_header};
+ghost use Rattle.authenticode_core.specs.ContentRefusal.{of_certificates, of_char_set, of_ctl, of_der, of_signatures, of_content, of_header};
 ghost use Rattle.authenticode_core.specs.RefusalName.{content_refusal_name, header_refusal_name, refusal_name, variant_name};
 ghost use Rattle.authenticode_core.specs.TrustList.{of_listing};
 ghost use Rattle.authenticode_core.specs.declared.error.CheckError.TheVariants.{Memory};
@@ -403,7 +403,7 @@ impl fmt::Display for CheckError {
 
 /// Out of memory becomes `Memory`.
 impl From<WinCertificateError> for CheckError {
-    ghost from_gives = { λ error e. e ≡ returned_of_header error };
+    ghost from_gives = { λ error e. e ≡ of_header error };
 
     fn from(error: WinCertificateError) -> CheckError {
         match error {
@@ -415,7 +415,7 @@ impl From<WinCertificateError> for CheckError {
 
 /// Out of memory becomes `Memory`.
 impl From<AuthenticodeError> for CheckError {
-    ghost from_gives = { λ error e. e ≡ returned_of_content error };
+    ghost from_gives = { λ error e. e ≡ of_content error };
 
     fn from(error: AuthenticodeError) -> CheckError {
         match &error {

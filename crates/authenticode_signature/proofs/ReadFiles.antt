@@ -16,7 +16,7 @@ use Rattle.wincert_core.specs.declared.error.WinCertificateError.{WinCertificate
 use Rattle.wincert_core.specs.declared.error.WinCertificateError.TheVariants as headers
 use Rattle.wincert_core.specs.declared.kinds.CertificateType.{CertificateType}
 use Rattle.authenticode_core.specs.Basic.{RefusesValue}
-use Rattle.authenticode_core.specs.ContentRefusal.{returned_of_content, returned_of_header}
+use Rattle.authenticode_core.specs.ContentRefusal.{of_content, of_header}
 use Rattle.authenticode_core.specs.declared.error.AuthenticodeError.{AuthenticodeError}
 use Rattle.authenticode_core.specs.declared.error.CheckError.{CheckError}
 use Rattle.authenticode_core.specs.declared.error.CheckError.TheVariants.{Win, Authenticode, Memory}
@@ -24,7 +24,7 @@ use Rattle.authenticode_core.proofs.OneData.{one_element, same_certificate}
 use Rattle.authenticode_signature.specs.FileRefusals.{GivesFile, GivesSignature, RefusesFile, RefusesHeader}
 use Rattle.authenticode_signature.specs.MadeFile.{IsSpelledWhole, wrapped}
 use Rattle.authenticode_signature.specs.Pkcs7.{written}
-use Rattle.authenticode_signature.specs.Refusals.{IsUnreadPkcs7, ReturnsOfSignedData, of_signed_data, unread}
+use Rattle.authenticode_signature.specs.Refusals.{IsUnreadPkcs7, WrapsSignedData, of_signed_data, unread}
 use Rattle.authenticode_signature.specs.Unread.{RefusesPadded}
 use Rattle.authenticode_signature.specs.declared.pkcs7.Pkcs7.{Pkcs7}
 use Rattle.authenticode_signature.specs.declared.signature.AuthenticodeSignature.{AuthenticodeSignature}
@@ -33,13 +33,13 @@ use Rattle.authenticode_signature.proofs.Padding.{none_for}
 
 -- ---- headers
 
-pub returned_so : {A : Type 0} (asked : Result A WinCertificateError) (source : WinCertificateError) (e : CheckError) → e ≡ returned_of_header source → (asked ≡ Err source) ⊎ (source ≡ headers.Memory) → RefusesHeader asked e
+pub returned_so : {A : Type 0} (asked : Result A WinCertificateError) (source : WinCertificateError) (e : CheckError) → e ≡ of_header source → (asked ≡ Err source) ⊎ (source ≡ headers.Memory) → RefusesHeader asked e
 returned_so asked source e returned (inl refused) = inl (source, returned, refused)
-returned_so asked source e returned (inr out) = inr (returned ∙ ap returned_of_header out)
+returned_so asked source e returned (inr out) = inr (returned ∙ ap of_header out)
 
 -- one cause is reported as one error
-pub returned_as : {A : Type 0} (a b : WinCertificateError) (e : CheckError) → ◌≡◌ {A = Result A WinCertificateError} (Err a) (Err b) → e ≡ returned_of_header a → e ≡ returned_of_header b
-returned_as a b e same returned = returned ∙ ap returned_of_header (one_error a b same)
+pub returned_as : {A : Type 0} (a b : WinCertificateError) (e : CheckError) → ◌≡◌ {A = Result A WinCertificateError} (Err a) (Err b) → e ≡ of_header a → e ≡ of_header b
+returned_as a b e same returned = returned ∙ ap of_header (one_error a b same)
 
 -- ---- a file
 
@@ -73,19 +73,19 @@ file_or_refused der element kind w (Err e) known is made refused = unspelled_fil
 
 -- ---- a signature
 
-unread_or_out : (octets certificate : List ℕ) (source : DerError) → contents_in octets ≡ Ok certificate → RefusesPadded certificate source → RefusesValue octets (returned_of_content (of_signed_data (unread source))) ⊎ (returned_of_content (of_signed_data (unread source)) ≡ Memory)
-unread_or_out octets certificate source named (inr out) = inr (ap (λ (s : DerError). returned_of_content (of_signed_data (unread s))) out)
+unread_or_out : (octets certificate : List ℕ) (source : DerError) → contents_in octets ≡ Ok certificate → RefusesPadded certificate source → RefusesValue octets (of_content (of_signed_data (unread source))) ⊎ (of_content (of_signed_data (unread source)) ≡ Memory)
+unread_or_out octets certificate source named (inr out) = inr (ap (λ (s : DerError). of_content (of_signed_data (unread s))) out)
 unread_or_out octets certificate (der.Malformed m) named (inl cause) = inl (record { certificate = certificate; named = named; source = der.Malformed m; cause = cause; returned = refl })
 unread_or_out octets certificate der.Shape named (inl cause) = inl (record { certificate = certificate; named = named; source = der.Shape; cause = cause; returned = refl })
 unread_or_out octets certificate der.TooDeep named (inl cause) = absurd cause
 unread_or_out octets certificate der.TooLong named (inl cause) = absurd cause
 unread_or_out octets certificate der.Memory named (inl cause) = absurd cause
 
-pub unread_file : (octets certificate : List ℕ) (e : AuthenticodeError) (r : CheckError) → r ≡ returned_of_content e → contents_in octets ≡ Ok certificate → ReturnsOfSignedData (IsUnreadPkcs7 (RefusesPadded certificate)) e → RefusesValue octets r ⊎ (r ≡ Memory)
+pub unread_file : (octets certificate : List ℕ) (e : AuthenticodeError) (r : CheckError) → r ≡ of_content e → contents_in octets ≡ Ok certificate → WrapsSignedData (IsUnreadPkcs7 (RefusesPadded certificate)) e → RefusesValue octets r ⊎ (r ≡ Memory)
 unread_file octets certificate e r returned named (source, of, (cause, is, refused)) =
-    subst (λ (x : CheckError). RefusesValue octets x ⊎ (x ≡ Memory)) (sym (returned ∙ ap returned_of_content (of ∙ ap of_signed_data is))) (unread_or_out octets certificate cause named refused)
+    subst (λ (x : CheckError). RefusesValue octets x ⊎ (x ≡ Memory)) (sym (returned ∙ ap of_content (of ∙ ap of_signed_data is))) (unread_or_out octets certificate cause named refused)
 
-returned_value : (octets : List ℕ) (source : WinCertificateError) → contents_in octets ≡ Err source → RefusesValue octets (returned_of_header source) ⊎ (returned_of_header source ≡ Memory)
+returned_value : (octets : List ℕ) (source : WinCertificateError) → contents_in octets ≡ Err source → RefusesValue octets (of_header source) ⊎ (of_header source ≡ Memory)
 returned_value octets headers.Memory refused = inr refl
 returned_value octets (headers.WrongRevisionValue n) refused = inl refused
 returned_value octets (headers.WrongCertificateType n) refused = inl refused

@@ -38,7 +38,7 @@ use Rattle.authenticode_parts.specs.MadeContent.{attributes_message}
 use Rattle.authenticode_parts.specs.MadeSignature.{SignatureParts, attributes_element, signature_made}
 use Rattle.authenticode_parts.specs.SignedProgram.{IsSignature}
 use Rattle.authenticode_signature.specs.BuilderError.{builder_refusal, unwritten_in_builder}
-use Rattle.der_core.specs.Refusals.{Returns}
+use Rattle.der_core.specs.Refusals.{Wraps}
 use Rattle.der_core.specs.Steps.{Step, AreTaken}
 use Rattle.authenticode_core.specs.BagSigner.{HasIssuerAndSerial}
 use Rattle.authenticode_signature.specs.declared.builder.AuthenticodeSignatureBuilder.{AuthenticodeSignatureBuilder}
@@ -144,7 +144,7 @@ abbrev pub supported_step : Option HashAlgorithm → Step AuthenticodeSignatureB
 supported_step hash = record {
   taken = hash ≢ Some SHA2_224;
   refused = λ e. (algorithm : HashAlgorithm) × (hash ≡ Some algorithm)
-      × Returns (λ source. errors.AuthenticodeError (signatures.UnsupportedHashAlgorithmError source))
+      × Wraps (λ source. errors.AuthenticodeError (signatures.UnsupportedHashAlgorithmError source))
       (RefusesHash algorithm) e;
 }
 
@@ -169,7 +169,7 @@ purpose_step g = record {
 abbrev pub element_step : List DerElement → Step AuthenticodeSignatureBuilderError
 element_step elements = record {
   taken = AreDer elements;
-  refused = Returns unwritten_in_builder (RefusesInner elements);
+  refused = Wraps unwritten_in_builder (RefusesInner elements);
 }
 
 -- what is written for the content
@@ -190,7 +190,7 @@ abbrev pub key_step : Signs → SignatureAlgorithm → PrivateKey → (message :
     → Step AuthenticodeSignatureBuilderError
 key_step signs algorithm key message = record {
   taken = IsAsked signs algorithm key message true;
-  refused = Returns (λ source. builder_refusal (of_signatures source))
+  refused = Wraps (λ source. builder_refusal (of_signatures source))
       (RefusesSignatureBy (sign_rules signs algorithm key message));
 }
 

@@ -9,27 +9,27 @@ use Rattle.wincert_core.specs.Refusal.{contents_in, current, encoded}
 use Rattle.wincert_core.specs.declared.error.WinCertificateError.{WinCertificateError}
 use Rattle.wincert_core.specs.declared.kinds.CertificateType.{CertificateType}
 use Rattle.authenticode_core.specs.Basic.{RefusesValue}
-use Rattle.authenticode_core.specs.ContentRefusal.{returned_of_content, returned_of_header}
+use Rattle.authenticode_core.specs.ContentRefusal.{of_content, of_header}
 use Rattle.authenticode_core.specs.declared.error.AuthenticodeError.{AuthenticodeError}
 use Rattle.authenticode_core.specs.declared.error.CheckError.{CheckError}
 use Rattle.authenticode_core.specs.declared.error.CheckError.TheVariants.{Memory}
 use Rattle.authenticode_signature.specs.MadeFile.{IsSpelledWhole, wrapped}
 use Rattle.authenticode_signature.specs.Pkcs7.{written}
-use Rattle.authenticode_signature.specs.Refusals.{IsUnwrittenPkcs7, ReturnsOfSignedData}
+use Rattle.authenticode_signature.specs.Refusals.{IsUnwrittenPkcs7, WrapsSignedData}
 use Rattle.authenticode_signature.specs.declared.signature.AuthenticodeSignature.{AuthenticodeSignature}
 
 -- it reports why there is no result, unless memory ran out
 abbrev pub RefusesHeader : {A : Type 0} → Result A WinCertificateError → CheckError → Type 0
 RefusesHeader asked =
     OrMemory Memory
-    (λ e. (source : WinCertificateError) × (e ≡ returned_of_header source) × (asked ≡ Err source))
+    (λ e. (source : WinCertificateError) × (e ≡ of_header source) × (asked ≡ Err source))
 
 -- the element can't be written, or it is too long for a WIN_CERTIFICATE, or for one with its
 -- padding
 abbrev pub RefusesFile : DerElement → CertificateType → CheckError → Type 0
 RefusesFile element kind e =
-    ((source : AuthenticodeError) × (e ≡ returned_of_content source)
-    × ReturnsOfSignedData (IsUnwrittenPkcs7 (RefusesInner (element ∷ []))) source)
+    ((source : AuthenticodeError) × (e ≡ of_content source)
+    × WrapsSignedData (IsUnwrittenPkcs7 (RefusesInner (element ∷ []))) source)
     ⊎ (IsDer element
     × (RefusesHeader (current (encoding element) kind) e
     ⊎ RefusesHeader (encoded (wrapped kind (encoding element))) e))

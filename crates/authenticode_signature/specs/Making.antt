@@ -4,7 +4,7 @@ use Rattle.std.specs.Prelude.{◌≡◌, ◌≢◌, ℕ, List, [], ◌∷◌, tr
 use Rattle.cms_types.specs.SignedDataElements.{SignedDataElements}
 use Rattle.der_core.specs.DerElement.{DerElement}
 use Rattle.der_core.specs.Placed.{AreDer}
-use Rattle.der_core.specs.Refusals.{RefusesInner, Returns}
+use Rattle.der_core.specs.Refusals.{RefusesInner, Wraps}
 use Rattle.der_core.specs.Steps.{Step, AreTaken}
 use Rattle.key_core.specs.SignatureRules.{RefusesSignatureBy}
 use Rattle.key_core.specs.Signing.{Signs, KeyArithmetic, IsAsked, sign_rules}
@@ -42,7 +42,7 @@ name_step name = record {
 abbrev pub hash_step : HashAlgorithm → Step AuthenticodeError
 hash_step hash = record {
   taken = hash ≢ SHA2_224;
-  refused = Returns errors.UnsupportedHashAlgorithmError (RefusesHash hash);
+  refused = Wraps errors.UnsupportedHashAlgorithmError (RefusesHash hash);
 }
 
 -- there are certificates
@@ -78,7 +78,7 @@ HasNoFirstForSigning (first ∷ others) e =
 abbrev pub writing_step : List DerElement → Step AuthenticodeError
 writing_step elements = record {
   taken = AreDer elements;
-  refused = Returns of_der (RefusesInner elements);
+  refused = Wraps of_der (RefusesInner elements);
 }
 
 -- the signed attributes are written, what is said about the program first
@@ -89,7 +89,7 @@ attributes_written p = p.opus ∷ attributes_element (attributes_for p) ∷ []
 abbrev pub sealing_step : Signs → SignatureAlgorithm → PrivateKey → List ℕ → Step AuthenticodeError
 sealing_step signs algorithm key message = record {
   taken = IsAsked signs algorithm key message true;
-  refused = Returns of_signatures (RefusesSignatureBy (sign_rules signs algorithm key message));
+  refused = Wraps of_signatures (RefusesSignatureBy (sign_rules signs algorithm key message));
 }
 
 -- the steps of a signature by a certificate

@@ -1,7 +1,7 @@
 -- Why signed data isn't read or written, by why its element isn't.
 use Rattle.der_core.specs.declared.error.DerError.{DerError}
 use Rattle.der_core.specs.declared.error.DerError.TheVariants as der
-use Rattle.der_core.specs.Refusals.{Returns}
+use Rattle.der_core.specs.Refusals.{Wraps}
 use Rattle.key_core.specs.declared.element.Element.TheVariants as structures
 use Rattle.x509_core.specs.declared.error.CertError.TheVariants as certs
 use Rattle.authenticode_core.specs.declared.error.AuthenticodeError.{AuthenticodeError}
@@ -26,12 +26,12 @@ of_signed_data errors.Memory = authenticode.Memory
 
 -- the error reports that octets aren't read, and its cause refuses them
 abbrev pub IsUnreadPkcs7 : (DerError → Type 0) → Pkcs7Error → Type 0
-IsUnreadPkcs7 = Returns unread
+IsUnreadPkcs7 = Wraps unread
 
 -- the error reports that signed data isn't written, and its cause refuses it
 abbrev pub IsUnwrittenPkcs7 : (DerError → Type 0) → Pkcs7Error → Type 0
-IsUnwrittenPkcs7 = Returns unwritten
+IsUnwrittenPkcs7 = Wraps unwritten
 
 -- the error of a signature wraps such an error
-abbrev pub ReturnsOfSignedData : (Pkcs7Error → Type 0) → AuthenticodeError → Type 0
-ReturnsOfSignedData = Returns of_signed_data
+abbrev pub WrapsSignedData : (Pkcs7Error → Type 0) → AuthenticodeError → Type 0
+WrapsSignedData = Wraps of_signed_data

@@ -4,7 +4,7 @@ use Rattle.der_core.specs.DerElement.{DerElement}
 use Rattle.der_core.specs.Encoding.{IsShort}
 use Rattle.der_core.specs.Rules.{OrMemory}
 use Rattle.der_core.specs.declared.error.DerError.TheVariants as der
-use Rattle.der_core.specs.Refusals.{Returns}
+use Rattle.der_core.specs.Refusals.{Wraps}
 use Rattle.key_core.specs.declared.element.Element.TheVariants as structures
 use Rattle.x509_core.specs.declared.error.CertError.{CertError}
 use Rattle.x509_core.specs.declared.error.CertError.TheVariants as certs
@@ -19,7 +19,7 @@ IsRefusedToken Refuses e = (source : Pkcs7Error) × (e ≡ token_refusal source)
 
 -- the error reports a request that isn't written
 abbrev pub IsRefusedRequest : (CertError → Type 0) → TimestampError → Type 0
-IsRefusedRequest = Returns stamp_refusal
+IsRefusedRequest = Wraps stamp_refusal
 
 -- the error reports that contents of a request are longer than 4,294,967,295 octets, or out of
 -- memory

@@ -6,7 +6,7 @@ ghost use Rattle.wincert_core.specs.Refusal.{contents_in, current, encoded};
 ghost use Rattle.wincert_core.specs.declared.error.WinCertificateError.{WinCertificateError};
 ghost use Rattle.wincert_core.specs.declared.kinds.CertificateType.{CertificateType};
 ghost use Rattle.x509_types.specs.CertificateElements.{CertificateElements};
-ghost use Rattle.authenticode_core.specs.ContentRefusal.{returned_of_header};
+ghost use Rattle.authenticode_core.specs.ContentRefusal.{of_header};
 ghost use Rattle.authenticode_core.specs.Trusted.{IsAnswer, RefusesForm};
 ghost use Rattle.authenticode_core.specs.declared.error.CheckError.{CheckError};
 ghost use Rattle.authenticode_core.specs.declared.error.CheckError.TheVariants.{Memory};
@@ -40,7 +40,7 @@ pub fn decode_signature(alloc: Global, octets: &[u8]) -> Result<AuthenticodeSign
     ensures answer { GivesSignature octets.now result }
     // A refusal of the header comes even when memory runs out.
     ensures refused { (source : WinCertificateError) → contents_in octets.now ≡ Err source
-        → result ≡ Err (returned_of_header source) }
+        → result ≡ Err (of_header source) }
     // A file is read as the signature that it was made of.
     ensures made { (p : Pkcs7) (certificate_type : CertificateType) → IsDer (written p)
         → IsSpelledWhole octets.now (wrapped certificate_type (encoding (written p)))
@@ -79,7 +79,7 @@ pub fn check_made<S: Scheme>(
 fn read_file(alloc: Global, octets: &[u8]) -> Result<AuthenticodeSignature, CheckError>
     ensures answer { GivesSignature octets.now result }
     ensures refused { (source : WinCertificateError) → contents_in octets.now ≡ Err source
-        → result ≡ Err (returned_of_header source) }
+        → result ≡ Err (of_header source) }
 {
     let wrapped = unwrap(alloc, octets)?;
     let signature = AuthenticodeSignature::from_wincert(alloc, &wrapped)?;
@@ -117,7 +117,7 @@ fn unwrap(alloc: Global, octets: &[u8]) -> Result<WinCertificate, CheckError>
     ensures answer { MatchResult result (λ w. contents_in octets.now ≡ Ok w.certificate)
         (RefusesHeader (contents_in octets.now)) }
     ensures refused { (source : WinCertificateError) → contents_in octets.now ≡ Err source
-        → result ≡ Err (returned_of_header source) }
+        → result ≡ Err (of_header source) }
 {
     match WinCertificate::decode(alloc, octets) {
         Ok(wrapped) => Ok(wrapped),

@@ -13,7 +13,7 @@ ghost use Rattle.der_core.specs.declared.fault.DerFault.{DerFault};
 ghost use Rattle.cms_types.specs.Pkcs7.{pkcs7};
 ghost use Rattle.cms_types.specs.declared.signed_data.pkcs7.Pkcs7Certificate.{Pkcs7Certificate};
 ghost use Rattle.authenticode_signature.specs.Pkcs7.{IsPkcs7Of, signer_infos_of, written};
-ghost use Rattle.authenticode_signature.specs.Refusals.{IsUnreadPkcs7, IsUnwrittenPkcs7, ReturnsOfSignedData, of_signed_data, unread};
+ghost use Rattle.authenticode_signature.specs.Refusals.{IsUnreadPkcs7, IsUnwrittenPkcs7, WrapsSignedData, of_signed_data, unread};
 ghost use Rattle.authenticode_signature.specs.SignedFields.{file_hash_in, signed_attributes_in, unsigned_attributes_in};
 ghost use Rattle.authenticode_signature.specs.SigningCertificate.{HasNoSigningCertificate, IsNamedOtherwise, IsSigningCertificate};
 ghost use Rattle.authenticode_core.specs.Basic.{IsNoSignedData};
@@ -44,7 +44,7 @@ impl AuthenticodeSignature {
     pub fn from_der(alloc: Global, der: &[u8]) -> Result<AuthenticodeSignature, AuthenticodeError>
         ensures answer { MatchResult result
             (λ s. IsWithin IsPkcs7Of der.now s.0.signed)
-            (ReturnsOfSignedData (IsUnreadPkcs7 (RefusesOctets IsPkcs7Of der.now))) }
+            (WrapsSignedData (IsUnreadPkcs7 (RefusesOctets IsPkcs7Of der.now))) }
         // Octets with a fault are refused with it, even when memory runs out.
         ensures faulty { (at : ℕ) (fault : DerFault) → IsExactFault der.now at fault
             → result ≡ Err
@@ -64,7 +64,7 @@ impl AuthenticodeSignature {
     pub fn to_der(&self, alloc: Global) -> Result<Vec<u8>, AuthenticodeError>
         ensures { MatchResult result
             (λ octets. (octets.items ≡ encoding (written self.now.0)) × IsDer (written self.now.0))
-            (ReturnsOfSignedData (IsUnwrittenPkcs7 (RefusesInner (written self.now.0 ∷ [])))) }
+            (WrapsSignedData (IsUnwrittenPkcs7 (RefusesInner (written self.now.0 ∷ [])))) }
     {
         match self.0.to_der(alloc) {
             Ok(octets) => Ok(octets),
@@ -80,7 +80,7 @@ impl AuthenticodeSignature {
     ) -> Result<AuthenticodeSignature, AuthenticodeError>
         ensures answer { MatchResult result
             (λ s. IsPaddedEncoding cert.now.certificate (written s.0))
-            (ReturnsOfSignedData (IsUnreadPkcs7 (RefusesPadded cert.now.certificate))) }
+            (WrapsSignedData (IsUnreadPkcs7 (RefusesPadded cert.now.certificate))) }
         // Octets that are no signed data are refused as such, even when memory runs out.
         ensures refused { (source : DerError) → IsNoSignedData cert.now.certificate source
             → result ≡ Err (of_signed_data (unread source)) }

@@ -10,8 +10,8 @@ use Rattle.der_core.specs.declared.error.DerError.{DerError}
 use Rattle.der_core.specs.declared.error.DerError.TheVariants as errors
 
 -- The error reports a cause that holds: it is the error of that cause.
-abbrev pub Returns : {S E : Type 0} → (S → E) → (S → Type 0) → E → Type 0
-Returns {S} returned Refuses e = (source : S) × (e ≡ returned source) × Refuses source
+abbrev pub Wraps : {S E : Type 0} → (S → E) → (S → Type 0) → E → Type 0
+Wraps {S} wrap Refuses e = (source : S) × (e ≡ wrap source) × Refuses source
 
 -- The error is `Shape`, for an element that encodes no value, or out of memory.
 abbrev pub RefusesShape : {X : Type 0} → (X → Type 0) → DerError → Type 0

@@ -16,7 +16,7 @@ IsFirstBroken (rule ∷ rules) e = rule e ⊎ (IsMet rule × IsFirstBroken rules
 
 -- The error reports so, unless it is out of memory.
 abbrev pub OrMemory : {E : Type 0} → (memory : E) → (E → Type 0) → E → Type 0
-OrMemory memory Returns e = Returns e ⊎ (e ≡ memory)
+OrMemory memory Refuses e = Refuses e ⊎ (e ≡ memory)
 
 -- Two results are the same, unless one of them is out of memory.
 abbrev pub AreOneUnlessMemory : {A E : Type 0} → (memory : E) → Result A E → Result A E → Type 0

@@ -7,7 +7,7 @@ use Rattle.der_core.specs.Writing.{RefusesToWrite}
 use Rattle.der_core.specs.declared.error.DerError.{DerError}
 use Rattle.der_core.specs.declared.error.DerError.TheVariants as der
 use Rattle.der_core.specs.declared.fault.DerFault.{DerFault}
-use Rattle.der_core.specs.Refusals.{Returns}
+use Rattle.der_core.specs.Refusals.{Wraps}
 use Rattle.key_core.specs.declared.element.Element.{Element}
 use Rattle.key_core.specs.declared.error.KeyError.{KeyError}
 use Rattle.key_core.specs.declared.error.KeyError.TheVariants as errors
@@ -24,7 +24,7 @@ unwritten element source = errors.Asn1Serialization element source
 
 -- The error names this structure, and its cause refuses to read it.
 abbrev pub IsUnreadKey : Element → (DerError → Type 0) → KeyError → Type 0
-IsUnreadKey element = Returns (unread element)
+IsUnreadKey element = Wraps (unread element)
 
 -- Octets with a fault are refused with it, even when memory runs out.
 abbrev pub RefusesFaults : {A : Type 0} → Element → List ℕ → Result A KeyError → Type 0
@@ -43,7 +43,7 @@ RefusesOthers {A} {X} spells structure octets result =
 
 -- The error names this structure, and its cause refuses to write it.
 abbrev pub IsUnwrittenKey : Element → (DerError → Type 0) → KeyError → Type 0
-IsUnwrittenKey element = Returns (unwritten element)
+IsUnwrittenKey element = Wraps (unwritten element)
 
 -- The element can't be written, and the cause isn't out of memory.
 pub record CantBeWritten (element : DerElement) (source : DerError) : Type 0 where

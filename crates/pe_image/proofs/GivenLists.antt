@@ -3,7 +3,7 @@ use Rattle.std.proofs.Common.{◌≡◌, ◌⊎◌, List, [], ◌∷◌, ℕ, Re
 use Rattle.std.specs.Prelude.{codes, ◌++◌}
 use Rattle.der_core.specs.declared.error.DerError.{DerError}
 use Rattle.der_core.specs.declared.error.DerError.TheVariants as der
-use Rattle.authenticode_core.specs.ContentRefusal.{of_ctl, returned_of_content}
+use Rattle.authenticode_core.specs.ContentRefusal.{of_ctl, of_content}
 use Rattle.authenticode_core.specs.ListOctets.{IsTrustList, IsUnreadList}
 use Rattle.authenticode_core.specs.TrustList.{unread_list}
 use Rattle.authenticode_core.specs.declared.accepted.Accepted.{Accepted}
@@ -11,26 +11,26 @@ use Rattle.authenticode_core.specs.declared.ctl.CertificateTrustList.{Certificat
 use Rattle.authenticode_core.specs.declared.error.CheckError.{CheckError}
 use Rattle.authenticode_core.proofs.OctetsOfLists.{unread_for_memory as list_unread}
 use Rattle.pe_image.specs.ListAnswer.{IsListRefusal}
-use Rattle.pe_image.specs.Refusals.{returned_of_check}
-use Rattle.pe_image.specs.Report.{WantsMemory, refused_line}
+use Rattle.pe_image.specs.Refusals.{of_check}
+use Rattle.pe_image.specs.Report.{IsOutOfMemory, refused_line}
 use Rattle.pe_image.specs.declared.error.PeCheckError.{PeCheckError}
 use Rattle.pe_image.specs.declared.error.PeCheckError.TheVariants.{Memory}
 
 -- the refusal, from why the octets aren't read as signed data
 abbrev refusal_for : DerError → PeCheckError
-refusal_for source = returned_of_check (returned_of_content (of_ctl (unread_list source)))
+refusal_for source = of_check (of_content (of_ctl (unread_list source)))
 
-refusal_is : (octets : List ℕ) (cause : CheckError) (unread : IsUnreadList octets cause) → returned_of_check cause ≡ refusal_for unread.1.0
+refusal_is : (octets : List ℕ) (cause : CheckError) (unread : IsUnreadList octets cause) → of_check cause ≡ refusal_for unread.1.0
 refusal_is octets cause unread =
-    ap returned_of_check (unread.2 ∙ ap (λ c. returned_of_content (of_ctl c)) unread.1.1)
+    ap of_check (unread.2 ∙ ap (λ c. of_content (of_ctl c)) unread.1.1)
 
-pub wants : (e : PeCheckError) → e ≡ Memory → WantsMemory (Err e)
-wants e is = subst (λ (x : PeCheckError). WantsMemory (Err x)) (sym is) tt
+pub wants : (e : PeCheckError) → e ≡ Memory → IsOutOfMemory (Err e)
+wants e is = subst (λ (x : PeCheckError). IsOutOfMemory (Err x)) (sym is) tt
 
-pub unread_for_memory : (octets : List ℕ) (list : CertificateTrustList) (answer : Result Accepted PeCheckError) → IsTrustList octets list → IsListRefusal octets answer → WantsMemory answer
+pub unread_for_memory : (octets : List ℕ) (list : CertificateTrustList) (answer : Result Accepted PeCheckError) → IsTrustList octets list → IsListRefusal octets answer → IsOutOfMemory answer
 unread_for_memory octets list (Ok accepted) is refusal = absurd refusal
 unread_for_memory octets list (Err e) is refusal =
-    wants e (refusal.2 ∙ ap returned_of_check (list_unread octets list refusal.0 is refusal.1))
+    wants e (refusal.2 ∙ ap of_check (list_unread octets list refusal.0 is refusal.1))
 
 -- the line of every refusal but out of memory
 abbrev pub list_line : List ℕ

@@ -12,7 +12,7 @@ use Rattle.program_frame.specs.declared.report.Report.{Report}
 use Rattle.program_frame.specs.declared.stop.Stop.{Stop}
 use Rattle.pe_image.specs.ListAnswer.{IsListAnswer, IsListRefusal, IsProgramAnswer}
 use Rattle.pe_image.specs.ProgramPolicy.{program_policy}
-use Rattle.pe_image.specs.Report.{GivesReport, IsReported, Reports, WantsMemory, refused_line}
+use Rattle.pe_image.specs.Report.{GivesReport, IsReported, Reports, IsOutOfMemory, refused_line}
 use Rattle.pe_image.specs.declared.error.PeCheckError.{PeCheckError}
 use Rattle.authenticode_core.proofs.OctetsOfLists.{one_list}
 use Rattle.pe_image.proofs.GivenLists.{unread_for_memory, unread_line, wants}
@@ -23,7 +23,7 @@ abbrev Answer : Type 0
 Answer = Result Accepted PeCheckError
 
 -- refusals with one line have one report
-with_line : (e f : PeCheckError) (result : Result Report Stop) → refused_line e ≡ refused_line f → IsReported (Err e) result → (WantsMemory (Err f) → ⊥)
+with_line : (e f : PeCheckError) (result : Result Report Stop) → refused_line e ≡ refused_line f → IsReported (Err e) result → (IsOutOfMemory (Err f) → ⊥)
     → IsReported (Err f) result
 with_line e f (Ok report) same h other = record { reportable = other; status = h.status; line = h.line ∙ same }
 with_line e f (Err s) same h other = h
@@ -56,7 +56,7 @@ module _ (judge : Judge) (date : GeneralizedTime) (options : CheckOptions) (octe
     -- ---- if it isn't
 
     same_line : (e f : PeCheckError) (result : Result Report Stop) → IsListRefusal list_octets (Err e) → IsListRefusal list_octets (Err f) → IsReported (Err e) result
-        → (WantsMemory (Err f) → ⊥) → IsReported (Err f) result
+        → (IsOutOfMemory (Err f) → ⊥) → IsReported (Err f) result
     same_line e f result a b h other = elim (unread_line list_octets e a) [
       | inl memory ↦ out_of_memory (Err e) (Err f) result (wants e memory) h
       | inr line ↦ elim (unread_line list_octets f b) [

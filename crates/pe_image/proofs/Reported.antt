@@ -11,7 +11,7 @@ use Rattle.program_frame.specs.declared.report.Report.{Report}
 use Rattle.program_frame.specs.declared.stop.Stop.{Stop}
 use Rattle.pe_image.specs.ListAnswer.{IsProgramAnswer}
 use Rattle.pe_image.specs.PeAnswer.{IsPeAnswer}
-use Rattle.pe_image.specs.Report.{GivesReport, IsReported, Reports, WantsMemory, report_line, status_of}
+use Rattle.pe_image.specs.Report.{GivesReport, IsReported, Reports, IsOutOfMemory, report_line, status_of}
 use Rattle.pe_image.specs.declared.error.PeCheckError.{PeCheckError}
 use Rattle.pe_image.specs.declared.error.PeCheckError.TheVariants.{Memory}
 
@@ -19,7 +19,7 @@ abbrev Answer : Type 0
 Answer = Result Accepted PeCheckError
 
 -- out of memory isn't reported, so memory ran out
-pub out_of_memory : (answer other : Result Accepted PeCheckError) (result : Result Report Stop) → WantsMemory answer → IsReported answer result
+pub out_of_memory : (answer other : Result Accepted PeCheckError) (result : Result Report Stop) → IsOutOfMemory answer → IsReported answer result
     → IsReported other result
 out_of_memory answer other (Ok report) wants h = absurd (h.reportable wants)
 out_of_memory answer other (Err s) wants h = h
@@ -47,10 +47,10 @@ gives_line answer line (Err s) status text h = h
 
 -- ---- for a program
 
-same_or_memory : (a b : Answer) → AreOneUnlessMemory Memory a b → WantsMemory a ⊎ (WantsMemory b ⊎ (a ≡ b))
+same_or_memory : (a b : Answer) → AreOneUnlessMemory Memory a b → IsOutOfMemory a ⊎ (IsOutOfMemory b ⊎ (a ≡ b))
 same_or_memory a b (inl same) = inr (inr same)
-same_or_memory a b (inr (inl none)) = inl (subst (λ (x : Answer). WantsMemory x) (sym none) tt)
-same_or_memory a b (inr (inr none)) = inr (inl (subst (λ (x : Answer). WantsMemory x) (sym none) tt))
+same_or_memory a b (inr (inl none)) = inl (subst (λ (x : Answer). IsOutOfMemory x) (sym none) tt)
+same_or_memory a b (inr (inr none)) = inr (inl (subst (λ (x : Answer). IsOutOfMemory x) (sym none) tt))
 
 given_same : (a b : Answer) (result : Result Report Stop) → IsReported a result → AreOneUnlessMemory Memory a b → GivesReport b result
 given_same a b result h same other = elim (same_or_memory a b same) [

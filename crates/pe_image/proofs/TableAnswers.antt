@@ -14,7 +14,7 @@ use Rattle.authenticode_core.specs.declared.policy.Policy.{Policy}
 use Rattle.authenticode_core.proofs.OneAnswer.{value_refuses}
 use Rattle.pe_image.specs.ImageHash.{IsImageHash}
 use Rattle.pe_image.specs.PeAnswer.{IsPeAnswer, IsTableAnswer, policy_for}
-use Rattle.pe_image.specs.Refusals.{returned_of_check}
+use Rattle.pe_image.specs.Refusals.{of_check}
 use Rattle.pe_image.specs.declared.error.PeCheckError.{PeCheckError}
 use Rattle.pe_image.specs.declared.error.PeCheckError.TheVariants.{Pe, Check, Memory}
 use Rattle.pe_image.proofs.ImageHashes.{one_hash}
@@ -22,9 +22,9 @@ use Rattle.pe_image.proofs.ImageHashes.{one_hash}
 -- the result for the table, as it is returned
 abbrev pub returned : Result Accepted CheckError → Result Accepted PeCheckError
 returned (Ok accepted) = Ok accepted
-returned (Err e) = Err (returned_of_check e)
+returned (Err e) = Err (of_check e)
 
-returned_so : (e : CheckError) → e ≢ checks.Memory → returned_of_check e ≡ Check e
+returned_so : (e : CheckError) → e ≢ checks.Memory → of_check e ≡ Check e
 returned_so (checks.Win e) other = refl
 returned_so (checks.Authenticode e) other = refl
 returned_so checks.Memory other = absurd (other refl)
@@ -32,7 +32,7 @@ returned_so checks.Memory other = absurd (other refl)
 error_of : (a b : CheckError) → ◌≡◌ {A = Result Accepted CheckError} (Err a) (Err b) → a ≡ b
 error_of a b e = cc
 
-value_returned : (table : List ℕ) (e : CheckError) → RefusesValue table e → returned_of_check e ≡ Check e
+value_returned : (table : List ℕ) (e : CheckError) → RefusesValue table e → of_check e ≡ Check e
 value_returned table (checks.Win e) refuses = refl
 value_returned table (checks.Authenticode e) refuses = refl
 value_returned table checks.Memory refuses = absurd refuses

@@ -8,7 +8,7 @@ use Rattle.program_frame.specs.Question.{Line, Question}
 use Rattle.program_frame.specs.Run.{Program}
 use Rattle.pe_image.specs.ListAnswer.{IsListAnswer}
 use Rattle.pe_image.specs.ProgramPolicy.{program_policy}
-use Rattle.pe_image.specs.Report.{WantsMemory, report_line, status_of}
+use Rattle.pe_image.specs.Report.{IsOutOfMemory, report_line, status_of}
 use Rattle.pe_image.specs.Words.{Job, AsksFor, files_of}
 use Rattle.pe_image.specs.declared.error.PeCheckError.{PeCheckError}
 
@@ -30,7 +30,7 @@ pub record IsAnswerLine (job : Job) (contents : List (List ℕ)) (line : Line) :
   pub rows : List VerdictRow
   pub is_table : IsTable (table_in contents) rows
   pub is_answer : IsAnswerTo (verdict_of rows) job contents answer
-  pub reportable : WantsMemory answer → ⊥
+  pub reportable : IsOutOfMemory answer → ⊥
   pub status : line.status ≡ status_of answer
   pub text : line.text ≡ report_line answer
 

@@ -8,7 +8,7 @@ use Rattle.authenticode_core.specs.declared.ctl.CertificateTrustList.{Certificat
 use Rattle.authenticode_core.specs.declared.error.CheckError.{CheckError}
 use Rattle.authenticode_core.specs.declared.policy.Policy.{Policy}
 use Rattle.pe_image.specs.PeAnswer.{IsPeAnswer}
-use Rattle.pe_image.specs.Refusals.{returned_of_check}
+use Rattle.pe_image.specs.Refusals.{of_check}
 use Rattle.pe_image.specs.declared.error.PeCheckError.{PeCheckError}
 
 -- A result of the check of a program under a policy. It is a record, so that proofs pass it on as
@@ -21,7 +21,7 @@ pub record IsProgramAnswer (judge : Judge) (policy : Policy) (octets : List ℕ)
 abbrev pub IsListRefusal : (octets : List ℕ) → Result Accepted PeCheckError → Type 0
 IsListRefusal octets (Ok accepted) = ⊥
 IsListRefusal octets (Err e) =
-    (cause : CheckError) × IsUnreadList octets cause × (e ≡ returned_of_check cause)
+    (cause : CheckError) × IsUnreadList octets cause × (e ≡ of_check cause)
 
 -- The result under a policy by its trust list: without one that of the check; else the octets of
 -- the list aren't read, or the result is that of the check with what is read.

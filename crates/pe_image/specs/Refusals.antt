@@ -8,9 +8,9 @@ use Rattle.pe_image.specs.declared.error.PeCheckError.{PeCheckError}
 use Rattle.pe_image.specs.declared.error.PeCheckError.TheVariants.{Pe, Check, Memory}
 
 -- the error for one of a check; out of memory is reported as such
-abbrev pub returned_of_check : CheckError → PeCheckError
-returned_of_check checks.Memory = Memory
-returned_of_check e = Check e
+abbrev pub of_check : CheckError → PeCheckError
+of_check checks.Memory = Memory
+of_check e = Check e
 
 -- why a program is refused
 abbrev pub error_text : PeCheckError → List ℕ

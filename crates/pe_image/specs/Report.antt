@@ -12,9 +12,9 @@ use Rattle.pe_image.specs.declared.error.PeCheckError.{PeCheckError}
 use Rattle.pe_image.specs.declared.error.PeCheckError.TheVariants.{Memory}
 
 -- out of memory, which isn't reported
-abbrev pub WantsMemory : Result Accepted PeCheckError → Type 0
-WantsMemory (Err Memory) = Unit {0}
-WantsMemory answer = ⊥
+abbrev pub IsOutOfMemory : Result Accepted PeCheckError → Type 0
+IsOutOfMemory (Err Memory) = Unit {0}
+IsOutOfMemory answer = ⊥
 
 -- accepted signer=S path=P,P excuse=E
 abbrev pub accepted_line : Accepted → List ℕ
@@ -36,7 +36,7 @@ status_of (Err e) = statuses.refused
 
 -- The report is the line of the result, with its status. Out of memory has no report.
 pub record IsReportOf (answer : Result Accepted PeCheckError) (report : Report) : Type 0 where
-  pub reportable : WantsMemory answer → ⊥
+  pub reportable : IsOutOfMemory answer → ⊥
   pub status : report.status ≡ status_of answer
   pub line : string_bytes report.line ≡ report_line answer
 
@@ -47,7 +47,7 @@ IsReported answer result =
 
 -- The same for a result that may be out of memory, of which nothing is said.
 abbrev pub GivesReport : Result Accepted PeCheckError → Result Report Stop → Type 0
-GivesReport answer result = (WantsMemory answer → ⊥) → IsReported answer result
+GivesReport answer result = (IsOutOfMemory answer → ⊥) → IsReported answer result
 
 -- What is reported is a result that satisfies this, and each such result is reported, unless memory
 -- ran out.

@@ -2,7 +2,7 @@
 
 ghost use Rattle.std.specs.Prelude.{◌≡◌, IfOk, string_bytes, Some};
 ghost use Rattle.pe_image.specs.RefusalName.{image_refusal_name, refusal_name};
-ghost use Rattle.pe_image.specs.Refusals.{error_text, returned_of_check};
+ghost use Rattle.pe_image.specs.Refusals.{error_text, of_check};
 ghost use Rattle.pe_image.specs.declared.error.PeCheckError.TheVariants.{Memory};
 
 use authenticode_core::CheckError;
@@ -63,7 +63,7 @@ impl fmt::Display for PeCheckError {
 
 /// Out of memory becomes `Memory`.
 impl From<CheckError> for PeCheckError {
-    ghost from_gives = { λ error e. e ≡ returned_of_check error };
+    ghost from_gives = { λ error e. e ≡ of_check error };
 
     fn from(error: CheckError) -> PeCheckError {
         match error {

@@ -62,7 +62,7 @@ impl Task for Job<'_> {
     // The verdict table among the files has the verdicts.
     fn report(&self, alloc: Global, read: &Contents) -> Result<Report, Stop> {
         let table = VerdictTable::parse(alloc, table_in(read))?;
-        judge_by(alloc, self, read, &table)
+        report_by(alloc, self, read, &table)
     }
 }
 
@@ -74,7 +74,7 @@ fn table_in(read: &Contents) -> &[u8]
 }
 
 /// The report on the contents of a job's files, by a scheme.
-fn judge_by<S: Scheme>(
+fn report_by<S: Scheme>(
     alloc: Global,
     asked: &Job<'_>,
     read: &Contents,
@@ -83,7 +83,7 @@ fn judge_by<S: Scheme>(
     ensures { Reports
         (IsAnswerTo (S.judge scheme.now) (job_held asked.now) (contents_held read.now)) result }
 {
-    judge_listed(
+    listed_report(
         alloc,
         &read.first,
         &read.others,
@@ -95,7 +95,7 @@ fn judge_by<S: Scheme>(
 
 /// The report on the octets of a program, by a scheme and the options, the octets of whose trust
 /// list are the first of `lists`.
-fn judge_listed<S: Scheme>(
+fn listed_report<S: Scheme>(
     alloc: Global,
     octets: &[u8],
     lists: &[Vec<u8>],

@@ -3,7 +3,7 @@ use Rattle.std.proofs.Common.{◌≡◌, ◌⊎◌, List, [], ◌∷◌, ℕ, in
 use Rattle.std.specs.Prelude.{codes, ◌++◌}
 use Rattle.der_core.specs.declared.error.DerError.{DerError}
 use Rattle.der_core.specs.declared.error.DerError.TheVariants as der
-use Rattle.authenticode_core.specs.ContentRefusal.{of_ctl, returned_of_content}
+use Rattle.authenticode_core.specs.ContentRefusal.{of_ctl, of_content}
 use Rattle.authenticode_core.specs.ListOctets.{IsUnreadList}
 use Rattle.authenticode_core.specs.TrustList.{unread_list}
 use Rattle.authenticode_core.specs.declared.error.CheckError.{CheckError}
@@ -14,7 +14,7 @@ use Rattle.picky_check.specs.Report.{refused_line}
 abbrev list_line : List ℕ
 list_line = codes "refused FailedToParseCtl" ++ 10 ∷ []
 
-line_of : (source : DerError) → (returned_of_content (of_ctl (unread_list source)) ≡ check.Memory) ⊎ (refused_line (returned_of_content (of_ctl (unread_list source))) ≡ list_line)
+line_of : (source : DerError) → (of_content (of_ctl (unread_list source)) ≡ check.Memory) ⊎ (refused_line (of_content (of_ctl (unread_list source))) ≡ list_line)
 line_of (der.Malformed m) = inr refl
 line_of der.Shape = inr refl
 line_of der.TooDeep = inr refl
@@ -23,4 +23,4 @@ line_of der.Memory = inl refl
 
 pub unread_line : (octets : List ℕ) (e : CheckError) → IsUnreadList octets e → (e ≡ check.Memory) ⊎ (refused_line e ≡ codes "refused FailedToParseCtl" ++ 10 ∷ [])
 unread_line octets e unread =
-    subst (λ (x : CheckError). (x ≡ check.Memory) ⊎ (refused_line x ≡ list_line)) (sym (unread.2 ∙ ap (λ c. returned_of_content (of_ctl c)) unread.1.1)) (line_of unread.1.0)
+    subst (λ (x : CheckError). (x ≡ check.Memory) ⊎ (refused_line x ≡ list_line)) (sym (unread.2 ∙ ap (λ c. of_content (of_ctl c)) unread.1.1)) (line_of unread.1.0)

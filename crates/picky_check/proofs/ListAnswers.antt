@@ -13,7 +13,7 @@ use Rattle.program_frame.specs.declared.report.Report.{Report}
 use Rattle.program_frame.specs.declared.stop.Stop.{Stop}
 use Rattle.picky_check.specs.Inquiry.{GivesReport, IsReported, Reports}
 use Rattle.picky_check.specs.Policies.{check_policy}
-use Rattle.picky_check.specs.Report.{Answer, OfSignature, OfChain, WantsMemory, refused_line}
+use Rattle.picky_check.specs.Report.{Answer, OfSignature, OfChain, IsOutOfMemory, refused_line}
 use Rattle.authenticode_core.specs.ListOctets.{IsTrustList, IsUnreadList}
 use Rattle.picky_check.specs.SignatureAnswer.{IsListAnswer, IsListRefusal, IsSignatureAnswer}
 use Rattle.authenticode_core.proofs.LentLists.{answer_under}
@@ -21,12 +21,12 @@ use Rattle.authenticode_core.proofs.OctetsOfLists.{one_list, unread_for_memory}
 use Rattle.picky_check.proofs.GivenLists.{unread_line}
 use Rattle.picky_check.proofs.Reported.{out_of_memory, reported_is}
 
-wants : (e : CheckError) → e ≡ check.Memory → WantsMemory (OfSignature (Err e))
-wants e is = subst (λ (x : CheckError). WantsMemory (OfSignature (Err x))) (sym is) tt
+wants : (e : CheckError) → e ≡ check.Memory → IsOutOfMemory (OfSignature (Err e))
+wants e is = subst (λ (x : CheckError). IsOutOfMemory (OfSignature (Err x))) (sym is) tt
 
 -- refusals with one line have one report
 with_line : (e f : CheckError) (result : Result Report Stop) → refused_line e ≡ refused_line f → IsReported (OfSignature (Err e)) result
-    → (WantsMemory (OfSignature (Err f)) → ⊥) → IsReported (OfSignature (Err f)) result
+    → (IsOutOfMemory (OfSignature (Err f)) → ⊥) → IsReported (OfSignature (Err f)) result
 with_line e f (Ok report) same h other = record { reportable = other; status = h.status; line = h.line ∙ same }
 with_line e f (Err s) same h other = h
 
@@ -40,7 +40,7 @@ module _ (judge : Judge) (hash : List ℕ) (date : GeneralizedTime) (options : C
   module _ (list_octets : List ℕ) (others : List (List ℕ)) where
     -- ---- if the list is read
 
-    no_refusal : (list : CertificateTrustList) → IsTrustList list_octets list → (answer : Answer) → IsListRefusal list_octets answer → WantsMemory answer
+    no_refusal : (list : CertificateTrustList) → IsTrustList list_octets list → (answer : Answer) → IsListRefusal list_octets answer → IsOutOfMemory answer
     no_refusal list is (OfSignature (Err e)) unread = wants e (unread_for_memory list_octets list e is unread)
     no_refusal list is (OfSignature (Ok a)) unread = absurd unread
     no_refusal list is (OfChain r) unread = absurd unread
@@ -64,7 +64,7 @@ module _ (judge : Judge) (hash : List ℕ) (date : GeneralizedTime) (options : C
     -- ---- if it isn't
 
     same_line : (e f : CheckError) (result : Result Report Stop) → IsUnreadList list_octets e → IsUnreadList list_octets f → IsReported (OfSignature (Err e)) result
-        → (WantsMemory (OfSignature (Err f)) → ⊥) → IsReported (OfSignature (Err f)) result
+        → (IsOutOfMemory (OfSignature (Err f)) → ⊥) → IsReported (OfSignature (Err f)) result
     same_line e f result a b h other = elim (unread_line list_octets e a) [
       | inl memory ↦ out_of_memory (OfSignature (Err e)) (OfSignature (Err f)) result (wants e memory) h
       | inr line ↦ elim (unread_line list_octets f b) [

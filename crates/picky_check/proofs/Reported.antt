@@ -13,7 +13,7 @@ use Rattle.program_frame.specs.declared.stop.Stop.{Stop}
 use Rattle.program_frame.specs.declared.stop.Stop.TheVariants as stop
 use Rattle.program_frame.specs.Inquiry.{GivesLine}
 use Rattle.program_frame.specs.Question.{Line}
-use Rattle.picky_check.specs.Report.{Answer, OfSignature, OfChain, WantsMemory, report_line, status_of}
+use Rattle.picky_check.specs.Report.{Answer, OfSignature, OfChain, IsOutOfMemory, report_line, status_of}
 use Rattle.picky_check.specs.Inquiry.{IsReported, GivesReport, Reports}
 use Rattle.picky_check.specs.SignatureAnswer.{IsSignatureAnswer}
 
@@ -22,7 +22,7 @@ pub GivesReport-reported : (answer : Answer) (result : Result Report Stop) → I
 GivesReport-reported answer result h other = h
 
 -- out of memory isn't reported, so memory ran out
-pub out_of_memory : (answer other : Answer) (result : Result Report Stop) → WantsMemory answer → IsReported answer result
+pub out_of_memory : (answer other : Answer) (result : Result Report Stop) → IsOutOfMemory answer → IsReported answer result
     → IsReported other result
 out_of_memory answer other (Ok report) wants h = absurd (h.reportable wants)
 out_of_memory answer other (Err s) wants h = h
@@ -55,10 +55,10 @@ gives_line answer line (Err s) status text h = h
 
 -- ---- for a signature file
 
-same_or_memory : (a b : Result Accepted CheckError) → AreOneUnlessMemory check.Memory a b → WantsMemory (OfSignature a) ⊎ (WantsMemory (OfSignature b) ⊎ (a ≡ b))
+same_or_memory : (a b : Result Accepted CheckError) → AreOneUnlessMemory check.Memory a b → IsOutOfMemory (OfSignature a) ⊎ (IsOutOfMemory (OfSignature b) ⊎ (a ≡ b))
 same_or_memory a b (inl same) = inr (inr same)
-same_or_memory a b (inr (inl none)) = inl (subst (λ (x : Result Accepted CheckError). WantsMemory (OfSignature x)) (sym none) tt)
-same_or_memory a b (inr (inr none)) = inr (inl (subst (λ (x : Result Accepted CheckError). WantsMemory (OfSignature x)) (sym none) tt))
+same_or_memory a b (inr (inl none)) = inl (subst (λ (x : Result Accepted CheckError). IsOutOfMemory (OfSignature x)) (sym none) tt)
+same_or_memory a b (inr (inr none)) = inr (inl (subst (λ (x : Result Accepted CheckError). IsOutOfMemory (OfSignature x)) (sym none) tt))
 
 given_signature : (a b : Result Accepted CheckError) (result : Result Report Stop) → IsReported (OfSignature a) result → AreOneUnlessMemory check.Memory a b → GivesReport (OfSignature b) result
 given_signature a b result h same other = elim (same_or_memory a b same) [

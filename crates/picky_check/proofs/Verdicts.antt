@@ -25,7 +25,7 @@ use Rattle.program_frame.specs.declared.report.Report.{Report}
 use Rattle.program_frame.specs.declared.stop.Stop.{Stop}
 use Rattle.picky_check.specs.Answer.{IsCertificateAnswer}
 use Rattle.picky_check.specs.ChainAnswer.{AreKeptCertificates, IsFirstUnread, IsChainJudged, IsChainAnswer, all_checks}
-use Rattle.picky_check.specs.Report.{Answer, OfSignature, OfChain, WantsMemory}
+use Rattle.picky_check.specs.Report.{Answer, OfSignature, OfChain, IsOutOfMemory}
 use Rattle.picky_check.specs.Inquiry.{IsReported, GivesReport, Reports}
 use Rattle.picky_check.proofs.Reported.{reported_is, out_of_memory, GivesReport-reported}
 
@@ -98,8 +98,8 @@ unread_alike octets e f a b = elim (first_name octets e a) [
 
 -- ---- results for the same octets
 
-wants : (e : CertError) → e ≡ cert.Memory → WantsMemory (OfChain (Err e))
-wants e is = subst (λ (x : CertError). WantsMemory (OfChain (Err x))) (sym is) tt
+wants : (e : CertError) → e ≡ cert.Memory → IsOutOfMemory (OfChain (Err e))
+wants e is = subst (λ (x : CertError). IsOutOfMemory (OfChain (Err x))) (sym is) tt
 
 accepted_parts : (judge : Judge) (date : GeneralizedTime) (octets : List (List ℕ)) (count : ℕ) → IsChainAnswer judge date octets (Ok count)
     → (certificates : List KeptCertificate) × AreKeptCertificates octets certificates × IsChainJudged judge date certificates (Ok count)
@@ -157,7 +157,7 @@ module _ (unbroken : (judge : Judge) (checks : ChainChecks) (checked : KeptCerti
       judged_alike judge date a.0 e f a.2 (subst (λ (cs : List KeptCertificate). IsChainJudged judge date cs (Err f)) (same_certificates b.0 a.0 (b.1 ∙ sym a.1)) b.2)
 
   refused_alike : (e f : CertError) (result : Result Report Stop) → IsNamedAlike e f → IsReported (OfChain (Err e)) result
-      → (WantsMemory (OfChain (Err f)) → ⊥) → IsReported (OfChain (Err f)) result
+      → (IsOutOfMemory (OfChain (Err f)) → ⊥) → IsReported (OfChain (Err f)) result
   refused_alike e f result (inl memory) h other = out_of_memory (OfChain (Err e)) (OfChain (Err f)) result (wants e memory) h
   refused_alike e f result (inr (inl memory)) h other = absurd (other (wants f memory))
   refused_alike e f (Ok report) (inr (inr name)) h other =

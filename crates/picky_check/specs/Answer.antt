@@ -8,7 +8,7 @@ use Rattle.picky_check.specs.ChainAnswer.{IsChainAnswer}
 use Rattle.program_frame.specs.Question.{Line, Question}
 use Rattle.program_frame.specs.Run.{Program}
 use Rattle.picky_check.specs.Policies.{basic_policy, check_policy}
-use Rattle.picky_check.specs.Report.{Answer, OfSignature, OfChain, WantsMemory, report_line, status_of}
+use Rattle.picky_check.specs.Report.{Answer, OfSignature, OfChain, IsOutOfMemory, report_line, status_of}
 use Rattle.picky_check.specs.SignatureAnswer.{IsListAnswer, IsSignatureAnswer}
 use Rattle.picky_check.specs.Words.{Job, Basic, Check, Chain, AsksFor, files_of}
 
@@ -41,7 +41,7 @@ pub record IsAnswerLine (job : Job) (contents : List (List ℕ)) (line : Line) :
   pub rows : List VerdictRow
   pub is_table : IsTable (table_in job contents) rows
   pub is_answer : IsAnswerTo (verdict_of rows) job contents answer
-  pub reportable : WantsMemory answer → ⊥
+  pub reportable : IsOutOfMemory answer → ⊥
   pub status : line.status ≡ status_of answer
   pub text : line.text ≡ report_line answer
 

@@ -6,12 +6,12 @@ use Rattle.program_frame.specs.declared.stop.Stop.TheVariants.{Memory}
 use Rattle.program_frame.specs.Inquiry.{IsInquiry}
 use Rattle.program_frame.specs.Shelf.{ShelfState}
 use Rattle.picky_check.specs.Answer.{question_of}
-use Rattle.picky_check.specs.Report.{Answer, WantsMemory, report_line, status_of}
+use Rattle.picky_check.specs.Report.{Answer, IsOutOfMemory, report_line, status_of}
 use Rattle.picky_check.specs.Words.{Job, AsksFor}
 
 -- The report is the line of the result, with its status. Out of memory has no report.
 pub record IsReportOf (answer : Answer) (report : Report) : Type 0 where
-  pub reportable : WantsMemory answer → ⊥
+  pub reportable : IsOutOfMemory answer → ⊥
   pub status : report.status ≡ status_of answer
   pub line : string_bytes report.line ≡ report_line answer
 
@@ -21,7 +21,7 @@ IsReported answer result = MatchResult result (IsReportOf answer) (λ stop. stop
 
 -- The same for an answer that may be out of memory, of which nothing is said.
 abbrev pub GivesReport : Answer → Result Report Stop → Type 0
-GivesReport answer result = (WantsMemory answer → ⊥) → IsReported answer result
+GivesReport answer result = (IsOutOfMemory answer → ⊥) → IsReported answer result
 
 -- What is reported is an answer that satisfies this, and each such answer is reported, unless
 -- memory ran out.

@@ -19,10 +19,10 @@ pub data Answer : Type 0 where
   OfChain : Result ℕ CertError → Answer
 
 -- out of memory, which isn't reported
-abbrev pub WantsMemory : Answer → Type 0
-WantsMemory (OfSignature (Err check.Memory)) = Unit {0}
-WantsMemory (OfChain (Err cert.Memory)) = Unit {0}
-WantsMemory answer = ⊥
+abbrev pub IsOutOfMemory : Answer → Type 0
+IsOutOfMemory (OfSignature (Err check.Memory)) = Unit {0}
+IsOutOfMemory (OfChain (Err cert.Memory)) = Unit {0}
+IsOutOfMemory answer = ⊥
 
 -- accepted signer=S path=P,P excuse=E
 abbrev pub accepted_line : Accepted → List ℕ

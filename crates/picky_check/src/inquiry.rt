@@ -89,7 +89,7 @@ impl Task for Job<'_> {
     // The verdict table among the files has the verdicts.
     fn report(&self, alloc: Global, read: &Contents) -> Result<Report, Stop> {
         let table = VerdictTable::parse(alloc, self.table_in(read))?;
-        judge_by(alloc, self, read, &table)
+        report_by(alloc, self, read, &table)
     }
 }
 
@@ -106,7 +106,7 @@ impl Job<'_> {
 }
 
 /// The report on the contents of a job's files, by a scheme.
-fn judge_by<S: Scheme>(
+fn report_by<S: Scheme>(
     alloc: Global,
     asked: &Job<'_>,
     read: &Contents,
@@ -125,7 +125,7 @@ fn judge_by<S: Scheme>(
             date,
             options,
             ..
-        } => judge_listed(
+        } => listed_report(
             alloc,
             &read.first,
             &read.others,
@@ -140,7 +140,7 @@ fn judge_by<S: Scheme>(
 
 /// The report on the octets of a signature file, by a scheme and the options of `check`, the octets
 /// of whose trust list are the first of `lists`.
-fn judge_listed<S: Scheme>(
+fn listed_report<S: Scheme>(
     alloc: Global,
     octets: &[u8],
     lists: &[Vec<u8>],

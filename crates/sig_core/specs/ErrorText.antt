@@ -26,4 +26,4 @@ unsupported_hash_text error =
 
 -- why an OID is refused as that of no digest algorithm
 abbrev pub unsupported_algorithm_text : List ℕ
-unsupported_algorithm_text = codes "the identifier names no supported digest algorithm"
+unsupported_algorithm_text = codes "the OID names no supported digest algorithm"

@@ -31,6 +31,6 @@ impl fmt::Display for UnsupportedAlgorithmError {
     ghost output = { λ _. Some unsupported_algorithm_text };
 
     fn fmt<W: fmt::Write>(&self, f: &mut fmt::Formatter<W>) -> fmt::Result {
-        write!(f, "the identifier names no supported digest algorithm")
+        write!(f, "the OID names no supported digest algorithm")
     }
 }

@@ -1,7 +1,7 @@
 -- Why a certificate isn't read or written, by why its element isn't.
 use Rattle.der_core.specs.declared.error.DerError.{DerError}
 use Rattle.der_core.specs.declared.error.DerError.TheVariants as der
-use Rattle.der_core.specs.Refusals.{Returns}
+use Rattle.der_core.specs.Refusals.{Wraps}
 use Rattle.key_core.specs.declared.element.Element.{Element}
 use Rattle.x509_core.specs.declared.error.CertError.{CertError}
 use Rattle.x509_core.specs.declared.error.CertError.TheVariants as errors
@@ -18,8 +18,8 @@ unwritten element source = errors.Asn1Serialization element source
 
 -- The error names this structure, and its cause refuses to read it.
 abbrev pub IsUnreadCert : Element → (DerError → Type 0) → CertError → Type 0
-IsUnreadCert element = Returns (unread element)
+IsUnreadCert element = Wraps (unread element)
 
 -- The error names this structure, and its cause refuses to write it.
 abbrev pub IsUnwrittenCert : Element → (DerError → Type 0) → CertError → Type 0
-IsUnwrittenCert element = Returns (unwritten element)
+IsUnwrittenCert element = Wraps (unwritten element)

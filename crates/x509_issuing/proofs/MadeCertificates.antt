@@ -21,7 +21,7 @@ use Rattle.x509_core.specs.CertRefusals.{IsUnwrittenCert}
 use Rattle.x509_core.specs.KeptCertificate.{KeptCertificate, kept_octets, written_octets, written_elements}
 use Rattle.x509_core.specs.declared.error.CertError.{CertError}
 use Rattle.x509_core.specs.declared.error.CertError.TheVariants as errors
-use Rattle.der_core.specs.Refusals.{Returns}
+use Rattle.der_core.specs.Refusals.{Wraps}
 use Rattle.der_core.specs.Rules.{OrMemory}
 use Rattle.der_core.specs.Steps.{IsFirstUntaken, RefusesBySteps}
 use Rattle.x509_issuing.specs.BuildRefusals.{no_octets, no_signature}
@@ -81,8 +81,8 @@ module _ (judge : Judge) (signs : Signs) (pair : Pair) (algorithm : SignatureAlg
 
 -- the TBSCertificate can't be written, or isn't signed
 pub not_made : (judge : Judge) (signs : Signs) (pair : Pair) (algorithm : SignatureAlgorithm) (key : PrivateKey) (tbs : TbsCertificate) (e : CertError)
-    → OrMemory errors.Memory (λ (e : CertError). Returns no_octets (RefusesInner (tbs_written tbs)) e
-    ⊎ (IsDer (tbs_certificate tbs) × AreDer (inner_tbs tbs) × Returns no_signature (RefusesSignatureBy (sign_rules signs algorithm key (message_of tbs))) e)) e
+    → OrMemory errors.Memory (λ (e : CertError). Wraps no_octets (RefusesInner (tbs_written tbs)) e
+    ⊎ (IsDer (tbs_certificate tbs) × AreDer (inner_tbs tbs) × Wraps no_signature (RefusesSignatureBy (sign_rules signs algorithm key (message_of tbs))) e)) e
     → RefusesBySteps errors.Memory (signing_steps (arithmetic judge signs pair) algorithm key (λ t. t ≡ tbs)) e
 not_made judge signs pair algorithm key tbs e (inr memory) = inr memory
 not_made judge signs pair algorithm key tbs e (inl (inl returned)) = inl (inl (tbs, refl, returned))

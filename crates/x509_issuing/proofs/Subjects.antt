@@ -7,7 +7,7 @@ use Rattle.key_core.specs.declared.public_key.PublicKey.{PublicKey}
 use Rattle.names_core.specs.declared.name.DirectoryName.{DirectoryName}
 use Rattle.x509_core.specs.declared.error.CertError.{CertError}
 use Rattle.x509_core.specs.declared.error.CertError.TheVariants as errors
-use Rattle.der_core.specs.Refusals.{Returns}
+use Rattle.der_core.specs.Refusals.{Wraps}
 use Rattle.der_core.specs.Steps.{AreTaken, RefusesBySteps}
 use Rattle.x509_issuing.specs.BuildRefusals.{no_request}
 use Rattle.x509_issuing.specs.BuiltCertificate.{IsGivenSubject, IsHalfOf, IsSubjectBy, NameSets}
@@ -61,7 +61,7 @@ other_or_refused judge false b issuer (Err x) e is = is
 -- a request that is signed by its own key, or refused
 pub requested_or_refused : (judge : Judge) (b : CertificateBuilder) (csr : KeptRequest) (r : Result (DirectoryName × PublicKey) CertError) → IsSome b.authority_key_identifier → b.subject_infos ≡ Some (subjects.Request csr)
     → MatchResult r (λ subject. IsSelfSigned judge csr × (subject.0.name ≡ csr.request.certification_request_info.subject) × (subject.1.info ≡ csr.request.certification_request_info.subject_public_key_info))
-    (λ e. Returns no_request (IsUnsigned (RefusesSelfSigned judge csr)) e ⊎ (e ≡ errors.Memory))
+    (λ e. Wraps no_request (IsUnsigned (RefusesSelfSigned judge csr)) e ⊎ (e ≡ errors.Memory))
     → MatchResult r (λ subject. IsSome b.authority_key_identifier × IsGivenSubject judge b.subject_infos subject.0.name subject.1.info) (RefusesBySteps errors.Memory (other_steps judge b))
 requested_or_refused judge b csr (Ok subject) some given is =
     (some, subst (λ (o : Option SubjectInfos). IsGivenSubject judge o subject.0.name subject.1.info) (sym given) is)

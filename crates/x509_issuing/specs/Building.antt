@@ -29,7 +29,7 @@ use Rattle.x509_core.specs.declared.error.Arg.{Arg}
 use Rattle.x509_core.specs.declared.error.Arg.TheVariants as arguments
 use Rattle.x509_core.specs.declared.error.CertError.{CertError}
 use Rattle.x509_core.specs.declared.error.CertError.TheVariants as errors
-use Rattle.der_core.specs.Refusals.{Returns}
+use Rattle.der_core.specs.Refusals.{Wraps}
 use Rattle.der_core.specs.Steps.{Step}
 use Rattle.x509_issuing.specs.BuildRefusals.{no_half, no_request, no_key_id, no_octets, no_signature}
 use Rattle.x509_issuing.specs.BuiltCertificate.{IsHalfOf, NameSets, IsSubject, IsBuiltFor, IsTbsFor}
@@ -88,7 +88,7 @@ given_step {X} argument option = record {
 abbrev pub half_step : PrivateKey → Step CertError
 half_step key = record {
   taken = (info : SubjectPublicKeyInfo) × IsHalfOf key info;
-  refused = Returns no_half (RefusesPublicHalf (container_of key).private_key (point_beside key));
+  refused = Wraps no_half (RefusesPublicHalf (container_of key).private_key (point_beside key));
 }
 
 -- the request, if any, is signed by its own key
@@ -96,7 +96,7 @@ abbrev pub request_step : Judge → Option SubjectInfos → Step CertError
 request_step judge subject = record {
   taken = (csr : KeptRequest) → subject ≡ Some (subjects.Request csr) → IsSelfSigned judge csr;
   refused = λ e. (csr : KeptRequest) × (subject ≡ Some (subjects.Request csr))
-      × Returns no_request (IsUnsigned (RefusesSelfSigned judge csr)) e;
+      × Wraps no_request (IsUnsigned (RefusesSelfSigned judge csr)) e;
 }
 
 -- if the subject isn't the issuer: the authority key identifier is given, the subject is given, and
@@ -119,14 +119,14 @@ identifier_step judge b issuer = record {
       × IsBuiltFor judge b issuer own name key;
   refused = λ e. (name : NameSets) × (key : SubjectPublicKeyInfo)
       × IsSubject judge b issuer name key
-      × Returns no_key_id (RefusesKeyIdentifier b.key_id_gen_method key) e;
+      × Wraps no_key_id (RefusesKeyIdentifier b.key_id_gen_method key) e;
 }
 
 -- the algorithm has an OID
 abbrev pub algorithm_step : CertificateBuilder → Step CertError
 algorithm_step b = record {
   taken = (id : AlgorithmIdentifier) × IsWrittenAlgorithm b.signature_hash_type id;
-  refused = Returns signature_refusal (IsUnwritable b.signature_hash_type);
+  refused = Wraps signature_refusal (IsUnwritable b.signature_hash_type);
 }
 
 -- all elements that are written for a TBSCertificate, inner ones first
@@ -140,7 +140,7 @@ module _ (scheme : KeyArithmetic) (algorithm : SignatureAlgorithm) (key : Privat
     taken = (tbs : TbsCertificate) × IsTbs tbs × IsDer (tbs_certificate tbs)
         × AreDer (inner_tbs tbs);
     refused = λ e. (tbs : TbsCertificate) × IsTbs tbs
-        × Returns no_octets (RefusesInner (tbs_written tbs)) e;
+        × Wraps no_octets (RefusesInner (tbs_written tbs)) e;
   }
 
   -- the key signs it
@@ -148,7 +148,7 @@ module _ (scheme : KeyArithmetic) (algorithm : SignatureAlgorithm) (key : Privat
   signature_step = record {
     taken = (tbs : TbsCertificate) × IsTbs tbs × IsTbsSigned scheme.signs algorithm key tbs;
     refused = λ e. (tbs : TbsCertificate) × IsTbs tbs
-        × Returns no_signature
+        × Wraps no_signature
         (RefusesSignatureBy (sign_rules scheme.signs algorithm key (message_of tbs))) e;
   }
 

@@ -1,7 +1,7 @@
 -- Why a request isn't read, written, accepted or made, by the step that fails.
 use Rattle.der_core.specs.declared.error.DerError.{DerError}
 use Rattle.der_core.specs.declared.error.DerError.TheVariants as der
-use Rattle.der_core.specs.Refusals.{Returns}
+use Rattle.der_core.specs.Refusals.{Wraps}
 use Rattle.key_core.specs.declared.element.Element.{Element}
 use Rattle.key_core.specs.declared.error.KeyError.{KeyError}
 use Rattle.key_core.specs.declared.error.KeyError.TheVariants as key
@@ -32,16 +32,16 @@ keyless source = errors.PrivateKeyToPublicKey source
 
 -- The error names this structure, and its cause refuses to read it.
 abbrev pub IsUnreadCsr : Element → (DerError → Type 0) → CsrError → Type 0
-IsUnreadCsr element = Returns (unread_csr element)
+IsUnreadCsr element = Wraps (unread_csr element)
 
 -- The error names this structure, and its cause refuses to write it.
 abbrev pub IsUnwrittenCsr : Element → (DerError → Type 0) → CsrError → Type 0
-IsUnwrittenCsr element = Returns (unwritten_csr element)
+IsUnwrittenCsr element = Wraps (unwritten_csr element)
 
 -- The error wraps one of a signature, whose cause refuses it.
 abbrev pub IsUnsigned : (SignatureError → Type 0) → CsrError → Type 0
-IsUnsigned = Returns unsigned
+IsUnsigned = Wraps unsigned
 
 -- The error wraps one of a private key, whose cause refuses its public key.
 abbrev pub IsKeyless : (KeyError → Type 0) → CsrError → Type 0
-IsKeyless = Returns keyless
+IsKeyless = Wraps keyless

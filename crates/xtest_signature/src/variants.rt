@@ -86,8 +86,7 @@ fn texts_of_errors(rt: HostRuntime) -> Result<(), Fail> {
         algorithm: HashAlgorithm::SHA2_224,
     };
     let returned = format!(in rt.alloc(); "{refused}; {}", UnsupportedAlgorithmError)?;
-    let want =
-        "digests by SHA-224 are not supported; the identifier names no supported digest algorithm";
+    let want = "digests by SHA-224 are not supported; the OID names no supported digest algorithm";
     assert!(rt; returned.as_str() == want);
     Ok(())
 }

@@ -19,7 +19,7 @@ ghost use Rattle.x509_core.specs.Link.{IsSignedBy, signature_refusal as algorith
 ghost use Rattle.x509_core.specs.declared.error.CertError.{CertError};
 ghost use Rattle.x509_core.specs.declared.error.CertError.TheVariants as errors;
 ghost use Rattle.x509_issuing.specs.declared.builder.IssuerInfos.{IssuerInfos};
-ghost use Rattle.der_core.specs.Refusals.{Returns};
+ghost use Rattle.der_core.specs.Refusals.{Wraps};
 ghost use Rattle.der_core.specs.Steps.{IsFirstUntaken, RefusesBySteps};
 ghost use Rattle.x509_issuing.specs.BuiltCertificate.{IsBuiltBy, IsIdentified, IsTbsBy, IsValidityOf, serial_of};
 ghost use Rattle.x509_issuing.specs.Building.{IsBuilt, algorithm_step, argument_steps, build_steps, given_steps};
@@ -197,7 +197,7 @@ fn identifier_of(
     algorithm: SignatureAlgorithm,
 ) -> Result<AlgorithmIdentifier, CertError>
     ensures { MatchResult result (IsWrittenAlgorithm algorithm)
-        (Returns algorithm_refusal (IsUnwritable algorithm)) }
+        (Wraps algorithm_refusal (IsUnwritable algorithm)) }
 {
     match algorithm.to_algorithm_identifier(alloc) {
         Ok(id) => Ok(id),

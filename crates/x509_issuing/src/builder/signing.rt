@@ -3,7 +3,7 @@
 ghost use Rattle.std.specs.Prelude.{◌≡◌, ◌⊎◌, IfOk, MatchResult};
 ghost use Rattle.der_core.specs.Encoding.{IsDer};
 ghost use Rattle.der_core.specs.Placed.{AreDer};
-ghost use Rattle.der_core.specs.Refusals.{RefusesInner, Returns};
+ghost use Rattle.der_core.specs.Refusals.{RefusesInner, Wraps};
 ghost use Rattle.der_core.specs.Rules.{OrMemory};
 ghost use Rattle.der_core.specs.Steps.{RefusesBySteps};
 ghost use Rattle.asn1_types.specs.Values.{payload_of, unused_of};
@@ -63,9 +63,9 @@ fn signature_of<S: Scheme>(
     ensures answer { MatchResult result
         (λ bits. (unused_of bits ≡ 0) × IsDer (tbs_certificate tbs.now) × AreDer (inner_tbs tbs.now)
         × IsTbsSigned (S.signs scheme.now) algorithm private_key.now tbs.now)
-        (OrMemory errors.Memory (λ e. Returns octets_refusal (RefusesInner (tbs_written tbs.now)) e
+        (OrMemory errors.Memory (λ e. Wraps octets_refusal (RefusesInner (tbs_written tbs.now)) e
         ⊎ (IsDer (tbs_certificate tbs.now) × AreDer (inner_tbs tbs.now)
-        × Returns signing_refusal
+        × Wraps signing_refusal
         (RefusesSignatureBy (sign_rules (S.signs scheme.now) algorithm private_key.now
         (message_of tbs.now))) e))) }
     ensures accepted { IfOk result (λ bits. (public : SubjectPublicKeyInfo)

@@ -3,7 +3,7 @@
 ghost use Rattle.std.specs.Prelude.{◌≡◌, [], ◌∷◌, ◌++◌, false, Err, IfOk, IsSome, MatchResult};
 ghost use Rattle.key_core.specs.Keys.{info_of};
 ghost use Rattle.names_core.specs.Names.{sets_of};
-ghost use Rattle.der_core.specs.Refusals.{Returns};
+ghost use Rattle.der_core.specs.Refusals.{Wraps};
 ghost use Rattle.der_core.specs.Rules.{OrMemory};
 ghost use Rattle.der_core.specs.Steps.{IsFirstUntaken, RefusesBySteps};
 ghost use Rattle.x509_core.specs.declared.error.CertError.{CertError};
@@ -145,7 +145,7 @@ fn requested<S: Scheme>(
         × (info_of subject.1
         ≡ csr.now.request.certification_request_info.subject_public_key_info))
         (OrMemory errors.Memory
-        (Returns request_refusal (IsUnsigned (RefusesSelfSigned (S.judge scheme.now) csr.now)))) }
+        (Wraps request_refusal (IsUnsigned (RefusesSelfSigned (S.judge scheme.now) csr.now)))) }
 {
     match csr.verify(alloc, scheme) {
         Ok(()) => Ok(asked(alloc, csr)?),

@@ -1,7 +1,7 @@
 use Rattle.std.proofs.Common.{Err, Ok, ap, ◌∙◌, refl}
 use Rattle.std.proofs.lemmas.Result.{err_from_is_err_and}
 use Rattle.cms_types.specs.SignedView.{data_elements}
-use Rattle.authenticode_core.specs.ContentRefusal.{returned_of_content}
+use Rattle.authenticode_core.specs.ContentRefusal.{of_content}
 use Rattle.authenticode_core.proofs.OneAnswer.{answer_at, only_at, refusal_is_answer, refused_at, refused_behind, shape_is_answer, value_refuses}
 use Rattle.authenticode_core.proofs.OneData.{lies_there}
 use Rattle.x509_core.proofs.NoRefusal.{no_refusal}
@@ -41,7 +41,7 @@ returns-in_err-accepted-clause-refused g c =
     let p = err_from_is_err_and c.from_residual-in_err-accepted.result c.from_residual-in_err-accepted.ensures.1 in
     let has = lies_there c.args.bytes.now c.in_ok-signed_data.ensures.0 c.in_ok-signed_data.signed_data c.in_ok-signed_data.ensures.1 in
     refused_behind c.one_first_fault.ensures.at_most_one c.one_first_fault.ensures.instead_of_an_element (g.S.Scheme.judge c.args.scheme.now) c.args.policy.now c.args.bytes.now c.from_residual-in_err-accepted.result (data_elements c.in_ok-signed_data.signed_data) (Err c.in_err-accepted.field-0.0) has
-    c.in_err-accepted.ensures.shape (λ x same. p.1 ∙ ap Err (p.2 ∙ ap returned_of_content (returned_same (Err c.in_err-accepted.field-0.0) c.in_err-accepted.field-0.0 x refl same)))
+    c.in_err-accepted.ensures.shape (λ x same. p.1 ∙ ap Err (p.2 ∙ ap of_content (returned_same (Err c.in_err-accepted.field-0.0) c.in_err-accepted.field-0.0 x refl same)))
 
 pub returns-in_err-accepted-clause-only : goal.returns-in_err-accepted-clause-only
 returns-in_err-accepted-clause-only g c =

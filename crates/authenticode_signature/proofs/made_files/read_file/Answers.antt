@@ -1,6 +1,6 @@
 use Rattle.std.proofs.Common.{Err, ap}
 use Rattle.std.proofs.lemmas.Result.{err_from_is_err_and}
-use Rattle.authenticode_core.specs.ContentRefusal.{returned_of_header}
+use Rattle.authenticode_core.specs.ContentRefusal.{of_header}
 use Rattle.x509_core.proofs.NoRefusal.{no_refusal, one_error}
 use Rattle.authenticode_signature.proofs.ReadFiles.{no_header, unread_file}
 use Rattle.authenticode_signature.proofs.made_files.read_file.Goals as goal
@@ -18,7 +18,7 @@ returns-in_err-signature-clause-answer c =
 pub returns-in_err-wrapped-clause-refused : goal.returns-in_err-wrapped-clause-refused
 returns-in_err-wrapped-clause-refused c = λ source refuses.
     let p = err_from_is_err_and c.from_residual.result c.from_residual.ensures.1 in
-    rw (p.1, p.2) (ap Err (one_error c.in_err-wrapped.field-0.0 (returned_of_header source) (c.in_err-wrapped.ensures.refused source refuses)))
+    rw (p.1, p.2) (ap Err (one_error c.in_err-wrapped.field-0.0 (of_header source) (c.in_err-wrapped.ensures.refused source refuses)))
 
 pub returns-in_err-signature-clause-refused : goal.returns-in_err-signature-clause-refused
 returns-in_err-signature-clause-refused c = λ source refuses. absurd (no_refusal _ _ (c.in_ok-wrapped.ensures.refused source refuses))

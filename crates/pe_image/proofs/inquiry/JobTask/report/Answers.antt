@@ -11,7 +11,7 @@ use Rattle.pe_image.proofs.inquiry.JobTask.report.Goals as goal
 
 pub returns-clause-reported : goal.returns-clause-reported
 returns-clause-reported c =
-    IfOk-weaker c.judge_by.result _ _ (λ report h. record {
+    IfOk-weaker c.report_by.result _ _ (λ report h. record {
       answer = h.0;
       rows = c.in_ok-table.table;
       is_table = subst (λ (text : List ℕ). IsTable text c.in_ok-table.table) c.table_in.ensures c.in_ok-table.ensures.table;
@@ -19,10 +19,10 @@ returns-clause-reported c =
       reportable = h.2.reportable;
       status = h.2.status;
       text = h.2.line;
-    }) c.judge_by.ensures.reported
+    }) c.report_by.ensures.reported
 
 pub returns-clause-low : goal.returns-clause-low
-returns-clause-low c = IfOk-weaker c.judge_by.result _ _ (λ report h. omega (arith, h.2.status, low h.0)) c.judge_by.ensures.reported
+returns-clause-low c = IfOk-weaker c.report_by.result _ _ (λ report h. omega (arith, h.2.status, low h.0)) c.report_by.ensures.reported
 
 pub returns-in_err-table-clause-only : goal.returns-in_err-table-clause-only
 returns-in_err-table-clause-only c line is =
@@ -33,7 +33,7 @@ returns-in_err-table-clause-only c line is =
 pub returns-clause-only : goal.returns-clause-only
 returns-clause-only c line is =
     let same = c.in_ok-table.ensures.each_table is.rows (subst (λ (text : List ℕ). IsTable text is.rows) (sym c.table_in.ensures) is.is_table) in
-    gives_line is.answer line c.judge_by.result is.status is.text (c.judge_by.ensures.only is.answer
+    gives_line is.answer line c.report_by.result is.status is.text (c.report_by.ensures.only is.answer
     (subst (λ (rs : List VerdictRow). IsAnswerTo (verdict_of rs) (job_held c.args.self.now) (contents_held c.args.read.now) is.answer) (sym same) is.is_answer) is.reportable)
 
 pub returns-clause-bad : goal.returns-clause-bad

@@ -1,7 +1,7 @@
 use Rattle.std.proofs.Common.{◌∙◌, ℕ, List, inl, inr, subst}
 use Rattle.key_core.specs.SignatureRules.{RefusesSignatureBy}
 use Rattle.key_core.specs.Signing.{sign_rules}
-use Rattle.der_core.specs.Refusals.{Returns}
+use Rattle.der_core.specs.Refusals.{Wraps}
 use Rattle.x509_issuing.specs.BuildRefusals.{no_signature}
 use Rattle.x509_issuing.proofs.Generating.{accepted_of}
 use Rattle.x509_issuing.proofs.builder.signing.signature_of.Goals as goal
@@ -14,6 +14,6 @@ pub returns-clause-answer : goal.returns-clause-answer
 returns-clause-answer g c = inl (inr (
   c.in-Ok.ensures.1,
   c.in-Ok.ensures.2,
-  subst (λ (m : List ℕ). Returns no_signature (RefusesSignatureBy (sign_rules (g.S.Scheme.signs c.args.scheme.now) c.args.algorithm c.args.private_key.now m)) c.no_signature.result)
+  subst (λ (m : List ℕ). Wraps no_signature (RefusesSignatureBy (sign_rules (g.S.Scheme.signs c.args.scheme.now) c.args.algorithm c.args.private_key.now m)) c.no_signature.result)
       (c.deref.ensures.value ∙ c.in-Ok.ensures.0) (c.in-Err-sign.source, c.no_signature.ensures, c.in-Err-sign.ensures.signed),
 ))

@@ -1,6 +1,6 @@
 use Rattle.std.proofs.Common.{List, ℕ, Vec, Global, map, refl, sym, ap, subst, ◌∙◌}
 use Rattle.std.proofs.lemmas.Result.{err_from_is_err_and}
-use Rattle.authenticode_core.specs.ContentRefusal.{returned_of_content}
+use Rattle.authenticode_core.specs.ContentRefusal.{of_content}
 use Rattle.authenticode_core.specs.declared.policy.Policy.{Policy}
 use Rattle.picky_check.specs.Inquiry.{Reports}
 use Rattle.program_frame.specs.Held.{options_held}
@@ -8,7 +8,7 @@ use Rattle.picky_check.specs.Policies.{check_policy}
 use Rattle.picky_check.specs.SignatureAnswer.{IsListAnswer, IsSignatureAnswer}
 use Rattle.program_frame.proofs.WordLists.{behind, words_are}
 use Rattle.picky_check.proofs.ListAnswers.{read_reported, unread_reported}
-use Rattle.picky_check.proofs.inquiry.judge_listed.Goals as goal
+use Rattle.picky_check.proofs.inquiry.listed_report.Goals as goal
 
 pub returns-in-Err : goal.returns-in-Err
 returns-in-Err g c =
@@ -16,7 +16,7 @@ returns-in-Err g c =
     subst (λ (lists : List (List ℕ)). Reports (IsListAnswer (g.S.Scheme.judge c.args.scheme.now) (check_policy c.args.hash.now c.args.date (options_held c.args.options.now)) c.args.octets.now lists) c.report_of.result)
     (sym are)
     (unread_reported (g.S.Scheme.judge c.args.scheme.now) c.args.hash.now c.args.date (options_held c.args.options.now) c.args.octets.now c.deref.result.now (map (λ (v : Vec ℕ Global). v.items) (behind c.args.lists.now))
-    c.from-refusal.result (c.in-Err.error, c.in-Err.ensures.answer, c.from-refusal.ensures ∙ ap returned_of_content c.from.ensures) c.report_of.result c.report_of.ensures)
+    c.from-refusal.result (c.in-Err.error, c.in-Err.ensures.answer, c.from-refusal.ensures ∙ ap of_content c.from.ensures) c.report_of.result c.report_of.ensures)
 
 pub returns-in_err-policy-2 : goal.returns-in_err-policy-2
 returns-in_err-policy-2 g c =

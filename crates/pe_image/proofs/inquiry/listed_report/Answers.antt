@@ -1,5 +1,5 @@
 use Rattle.std.proofs.Common.{List, ℕ, Vec, Global, map, sym, ap, subst, ◌∙◌}
-use Rattle.authenticode_core.specs.ContentRefusal.{returned_of_content}
+use Rattle.authenticode_core.specs.ContentRefusal.{of_content}
 use Rattle.authenticode_core.specs.declared.policy.Policy.{Policy}
 use Rattle.program_frame.specs.Held.{options_held}
 use Rattle.program_frame.proofs.WordLists.{behind, words_are}
@@ -7,7 +7,7 @@ use Rattle.pe_image.specs.ListAnswer.{IsListAnswer, IsProgramAnswer}
 use Rattle.pe_image.specs.ProgramPolicy.{program_policy}
 use Rattle.pe_image.specs.Report.{Reports}
 use Rattle.pe_image.proofs.ListAnswers.{read_reported, unread_reported}
-use Rattle.pe_image.proofs.inquiry.judge_listed.Goals as goal
+use Rattle.pe_image.proofs.inquiry.listed_report.Goals as goal
 
 pub returns-in-Err : goal.returns-in-Err
 returns-in-Err g c =
@@ -15,7 +15,7 @@ returns-in-Err g c =
     subst (λ (lists : List (List ℕ)). Reports (IsListAnswer (g.S.Scheme.judge c.args.scheme.now) (program_policy c.args.date (options_held c.args.options.now)) c.args.octets.now lists) c.report_of.result)
     (sym are)
     (unread_reported (g.S.Scheme.judge c.args.scheme.now) c.args.date (options_held c.args.options.now) c.args.octets.now c.deref.result.now (map (λ (v : Vec ℕ Global). v.items) (behind c.args.lists.now))
-    c.from-in-Err.result (c.from-refusal.result, (c.in-Err.error, c.in-Err.ensures.answer, c.from-refusal.ensures ∙ ap returned_of_content c.from.ensures), c.from-in-Err.ensures) c.report_of.result c.report_of.ensures)
+    c.from-in-Err.result (c.from-refusal.result, (c.in-Err.error, c.in-Err.ensures.answer, c.from-refusal.ensures ∙ ap of_content c.from.ensures), c.from-in-Err.ensures) c.report_of.result c.report_of.ensures)
 
 pub returns : goal.returns
 returns g c =
