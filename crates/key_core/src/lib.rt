@@ -45,6 +45,7 @@ pub use private_key_types::{ECPrivateKey, RsaPrivateKey};
 pub use private_key_value::PrivateKeyValue;
 pub use private_key_version::PrivateKeyVersion;
 pub use public_key::PublicKey;
+pub use scheme_names::{curve_for, ecdsa_alg, rsa_alg};
 pub use signature_algorithm::SignatureAlgorithm;
 pub use signature_error::{SigContext, SignatureError, Unsupported};
 pub use signature_laws::{

@@ -6,8 +6,8 @@ ghost use Rattle.key_core.specs.SchemeNames.{rsa_alg, curve_for, ecdsa_alg};
 use crate::ec_curve::EcCurve;
 use sig_core::{HashAlgorithm, SigAlg};
 
-/// RSA with a digest algorithm.
-pub(crate) fn rsa_alg(hash: HashAlgorithm) -> SigAlg
+/// RSA with a digest algorithm (RFC 8017 8.2).
+pub fn rsa_alg(hash: HashAlgorithm) -> SigAlg
     ensures { result ≡ rsa_alg hash }
 {
     match hash {
@@ -21,7 +21,7 @@ pub(crate) fn rsa_alg(hash: HashAlgorithm) -> SigAlg
 }
 
 /// The curve whose keys sign a digest (RFC 5480 4).
-pub(crate) fn curve_for(hash: HashAlgorithm) -> Option<EcCurve>
+pub fn curve_for(hash: HashAlgorithm) -> Option<EcCurve>
     ensures { result ≡ curve_for hash }
 {
     match hash {
@@ -32,8 +32,8 @@ pub(crate) fn curve_for(hash: HashAlgorithm) -> Option<EcCurve>
     }
 }
 
-/// ECDSA with keys on a curve.
-pub(crate) fn ecdsa_alg(curve: EcCurve) -> SigAlg
+/// ECDSA with keys on a curve, with the digest that they sign.
+pub fn ecdsa_alg(curve: EcCurve) -> SigAlg
     ensures { result ≡ ecdsa_alg curve }
 {
     match curve {
