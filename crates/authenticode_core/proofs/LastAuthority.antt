@@ -10,7 +10,7 @@ use Rattle.x509_types.specs.CertificateElements.{CertificateElements}
 use Rattle.x509_types.specs.CertificateView.{view_elements}
 use Rattle.authenticode_core.specs.AuthorityName.{AreAt, HasAuthorityName, IsAuthorityName, IsLastAuthority, IsNameAt, IsNoAuthority, NoneIsAuthority}
 use Rattle.authenticode_core.specs.Inside.AuthoritySteps.{IsNameAfter, IsNextName}
-use Rattle.authenticode_core.specs.Inside.OthersCursor.{GivesPlaces, IsFirstOf}
+use Rattle.authenticode_core.specs.OthersCursor.{GivesPlaces, IsFirstOf}
 use Rattle.authenticode_core.specs.Places.{StandsAt}
 use Rattle.authenticode_core.specs.declared.path.others.Source.{Source}
 use Rattle.authenticode_core.specs.declared.signer.bag.BagCertificate.{BagCertificate}

@@ -16,7 +16,7 @@ use Rattle.x509_core.proofs.ChainSteps.{linked_none_of}
 use Rattle.x509_types.specs.CertificateElements.{CertificateElements}
 use Rattle.authenticode_core.specs.Excuses.{AreOthersThan, IsLinkedToken, IsUnlinkedToken, any_time}
 use Rattle.authenticode_core.specs.Inside.Linking.{IsBrokenNext, IsLinkedSoFar, IsNextLink, IsNoLink}
-use Rattle.authenticode_core.specs.Inside.OthersCursor.{AreLeft, IsFirstOf}
+use Rattle.authenticode_core.specs.OthersCursor.{AreLeft, IsFirstOf}
 use Rattle.authenticode_core.specs.IssuerWalk.{IsIssuerPath}
 use Rattle.authenticode_core.specs.LinkedPath.{StandAt, AreLinkedAt, IsUnlinkedAt, IsVouchedPath}
 use Rattle.authenticode_core.specs.Places.{StandsAt}

@@ -1,5 +1,5 @@
 -- The first member of a bag that is a certificate with an issuer and a serial number.
-use Rattle.std.proofs.Common.{◌≡◌, ◌↔◌, IsTrue, Bool, Option, Some, MatchOption, ℕ, List, [], ◌∷◌, ◌++◌, inl, inr, refl, sym, ap, subst, ◌∙◌, append_assoc, arith, length, length-append}
+use Rattle.std.proofs.Common.{◌≡◌, ◌≢◌, ◌↔◌, IsTrue, Bool, Option, Some, MatchOption, ℕ, List, [], ◌∷◌, ◌++◌, inl, inr, refl, sym, ap, subst, ◌∙◌, append_assoc, arith, length, length-append}
 use Rattle.asn1_types.specs.Values.{integer_contents}
 use Rattle.cms_types.specs.SignedDataElements.{SignedDataElements}
 use Rattle.cms_types.specs.SignerElements.{SignerElements}
@@ -8,13 +8,14 @@ use Rattle.cms_types.specs.SignerInfo.{signer_elements, signer_info}
 use Rattle.cms_types.specs.SignerView.{LendsNamed}
 use Rattle.cms_types.specs.declared.signer_info.identifier.SignerIdentifier.{SignerIdentifier}
 use Rattle.cms_types.specs.declared.signer_info.identifier.SignerIdentifier.TheVariants as named
+use Rattle.cms_types.specs.declared.signer_info.issuer_and_serial.IssuerAndSerialNumber.{IssuerAndSerialNumber}
 use Rattle.der_core.specs.DerElement.{DerElement, Primitive}
 use Rattle.der_core.specs.Elements.{sequence}
 use Rattle.der_core.specs.Encoding.{encoding}
 use Rattle.name_types.specs.Name.{name}
 use Rattle.x509_types.specs.CertificateElements.{CertificateElements}
 use Rattle.x509_types.specs.CertificateView.{view_elements}
-use Rattle.authenticode_core.specs.BagSigner.{IsNamedByFirst}
+use Rattle.authenticode_core.specs.BagSigner.{HasNoSigner, IsNamedByFirst}
 use Rattle.authenticode_core.specs.CertificateBag.{IsBag, IsMember}
 use Rattle.authenticode_core.specs.Places.{StandsAt, HasNoPlaceBetween, HasNoPlace, IsLeastPlace}
 use Rattle.authenticode_core.specs.Inside.Naming.{IsFirstOfName, IsNamedAt}
@@ -111,6 +112,12 @@ named_back f g issuer serial_number c first lent n =
 pub named_or_not : (f : SignedDataElements) (g : SignerElements) (issuer serial_number : List ℕ) → IsFirstSigner f g → LendsNamed g.sid issuer serial_number → (c : CertificateElements) → IsNamedBy issuer serial_number c ↔ IsNamedByFirst (signers_of f) c
 named_or_not f g issuer serial_number first lent c =
     (λ by. named_there f g issuer serial_number c first lent by first.value.sid refl, λ n. named_back f g issuer serial_number c first lent n)
+
+-- a signer that is identified by a key has no certificate by its issuer and serial number
+pub none_by_key : (f : SignedDataElements) (g : SignerElements) (bag : List CertificateElements) → IsFirstSigner f g → ((value : IssuerAndSerialNumber) → g.sid ≢ issuer_and_serial_number value) → HasNoSigner (signers_of f) bag
+none_by_key f g bag first none = λ place c later at n.
+    let same : signer_info first.value ≡ signer_info n.signer = heads (signer_info first.value) (signer_info n.signer) first.others n.others (sym first.first ∙ n.first) in
+    none n.value (sid_is f g first ∙ same_sid (signer_elements first.value) (signer_elements n.signer) same ∙ ap signer_identifier n.sid)
 
 -- ---- a rule that holds if another one does
 

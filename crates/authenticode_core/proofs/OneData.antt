@@ -9,8 +9,7 @@ use Rattle.der_core.specs.DerElement.{DerElement}
 use Rattle.der_core.specs.Encoding.{IsPaddedEncoding}
 use Rattle.der_core.specs.Facts.Fronts.{fronts}
 use Rattle.wincert_core.specs.Refusal.{contents_in}
-use Rattle.authenticode_core.specs.Basic.{HasSignedData}
-use Rattle.authenticode_core.specs.Inside.Form.{LiesIn}
+use Rattle.authenticode_core.specs.Basic.{HasSignedData, LiesIn}
 use Rattle.authenticode_core.proofs.FormFields.{fields_of_view, same_fields_of}
 
 pub one_element : (octets : List ℕ) (a b : DerElement) → IsPaddedEncoding octets a → IsPaddedEncoding octets b → a ≡ b

@@ -8,7 +8,7 @@ use Rattle.x509_types.specs.CertificateElements.{CertificateElements}
 use Rattle.x509_types.specs.CertificateView.{view_elements}
 use Rattle.authenticode_core.specs.BagCursor.{StandsIn}
 use Rattle.authenticode_core.specs.Excuses.{places_from}
-use Rattle.authenticode_core.specs.Inside.OthersCursor.{WalksOver, GoesOver, GivesPlaces, AreLeft, IsFirstOf}
+use Rattle.authenticode_core.specs.OthersCursor.{WalksOver, GoesOver, GivesPlaces, AreLeft, IsFirstOf}
 use Rattle.authenticode_core.specs.IssuerWalk.{IsWalkFrom, AreOthers}
 use Rattle.authenticode_core.specs.Names.{HasSubject}
 use Rattle.authenticode_core.specs.Places.{StandsAt, IsLeastPlace}

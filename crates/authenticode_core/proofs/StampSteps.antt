@@ -10,8 +10,7 @@ use Rattle.key_core.specs.Verifying.{Judge}
 use Rattle.x509_types.specs.CertificateElements.{CertificateElements}
 use Rattle.x509_types.specs.CertificateView.{view_elements}
 use Rattle.x509_types.specs.Purposes.{NamesPurpose}
-use Rattle.authenticode_core.specs.Excuses.{HasBadStamp, HasToken, IsForStamping, IsLinkedToken, IsUnlinkedStamp, IsUnlistedStamp, NamesLifetime, NamesTimeStamping, stamp_rules}
-use Rattle.authenticode_core.specs.Inside.ExcuseSteps.{LeadsStamping}
+use Rattle.authenticode_core.specs.Excuses.{HasBadStamp, HasToken, IsForStamping, IsLinkedToken, IsUnlinkedStamp, IsUnlistedStamp, LeadsStamping, NamesLifetime, NamesTimeStamping, stamp_rules}
 use Rattle.authenticode_core.specs.Places.{HasNoPlace, IsLeastPlace, StandsAt}
 use Rattle.authenticode_core.specs.SigningRules.{IsBagOf}
 use Rattle.authenticode_core.specs.declared.error.AuthenticodeError.{AuthenticodeError}

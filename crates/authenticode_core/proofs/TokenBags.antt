@@ -7,7 +7,7 @@ use Rattle.x509_types.specs.CertificateElements.{CertificateElements}
 use Rattle.authenticode_core.specs.AuthorityName.{IsNameAt}
 use Rattle.authenticode_core.specs.BagCursor.{StandsIn}
 use Rattle.authenticode_core.specs.Excuses.{IsListedToken, IsUnlistedStamp, NamesTimeStamping, places_from}
-use Rattle.authenticode_core.specs.Inside.OthersCursor.{GoesOver}
+use Rattle.authenticode_core.specs.OthersCursor.{GoesOver}
 use Rattle.authenticode_core.specs.TrustList.{IsOnList, name_rules}
 use Rattle.authenticode_core.specs.declared.ctl.CertificateTrustList.{CertificateTrustList}
 use Rattle.authenticode_core.specs.declared.error.AuthenticodeError.{AuthenticodeError}

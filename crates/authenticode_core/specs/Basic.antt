@@ -4,8 +4,10 @@ use Rattle.std.specs.Prelude.{◌≡◌, ◌≤◌, ◌⊎◌, ℕ, drop, replic
 use Rattle.cms_types.specs.Pkcs7.{pkcs7}
 use Rattle.cms_types.specs.SignedData.{signed_data_elements}
 use Rattle.cms_types.specs.SignedDataElements.{SignedDataElements}
+use Rattle.cms_types.specs.SignedView.{IsSignedView}
 use Rattle.cms_types.specs.SignerElements.{SignerElements}
 use Rattle.cms_types.specs.declared.signed_data.pkcs7.Pkcs7Certificate.{Pkcs7Certificate}
+use Rattle.cms_types.specs.declared.signed_data.view.SignedView.{SignedView}
 use Rattle.der_core.specs.DerElement.{DerElement}
 use Rattle.der_core.specs.Encoding.{IsPaddedEncoding}
 use Rattle.der_core.specs.Fault.{IsFirstFault}
@@ -35,6 +37,14 @@ pub record HasSignedData (octets : List ℕ) (f : SignedDataElements) : Type 0 w
   pub value : Pkcs7Certificate
   pub spelled : IsPaddedEncoding certificate (pkcs7 value)
   pub fields : f ≡ signed_data_elements value.signed_data
+
+-- The octets begin with a WIN_CERTIFICATE whose certificate is this element, with at most seven
+-- zeros after it, and the view is one of it.
+pub record LiesIn (octets : List ℕ) (element : DerElement) (view : SignedView) : Type 0 where
+  pub certificate : List ℕ
+  pub named : contents_in octets ≡ Ok certificate
+  pub spelled : IsPaddedEncoding certificate element
+  pub is : IsSignedView element view
 
 -- Signed data vouches for the digest of a file: it has the form, the digest is the expected one,
 -- and the signature of its one signer, whose certificate is at this index, is good.

@@ -69,6 +69,13 @@ pub record IsForStamping (t : SignedDataElements) (bag : List CertificateElement
   pub is_bag : IsBagOf t bag
   pub named : NamesTimeStamping bag
 
+-- Some certificate of the token's bag has the extended key usage time stamping, and this is the
+-- first of all.
+pub record LeadsStamping (t : SignedDataElements) (c : CertificateElements) : Type 0 where
+  pub bag : List CertificateElements
+  pub stamping : IsForStamping t bag
+  pub stands : StandsAt bag 0 c
+
 -- this many indices, from one on
 abbrev pub places_from : ℕ → ℕ → List ℕ
 places_from place zero = []

@@ -4,8 +4,6 @@ pub mod SigningSteps
 pub mod PolicySteps
 pub mod Wanted
 pub mod Naming
-pub mod OthersCursor
 pub mod Linking
 pub mod AuthoritySteps
 pub mod ListContent
-pub mod ExcuseSteps

@@ -14,6 +14,7 @@ pub mod IssuerWalk
 pub mod LeftMembers
 pub mod BagCursor
 pub mod WalkCursor
+pub mod OthersCursor
 -- Errors: what those of other crates become, their texts and names.
 pub mod ContentRefusal
 pub mod StampRefusal

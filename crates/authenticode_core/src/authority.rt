@@ -7,7 +7,7 @@ ghost use Rattle.x509_types.specs.CertificateElements.{CertificateElements};
 ghost use Rattle.x509_types.specs.CertificateView.{view_elements};
 ghost use Rattle.authenticode_core.specs.AuthorityName.{IsNameAt};
 ghost use Rattle.authenticode_core.specs.Inside.AuthoritySteps.{IsNameAfter, IsNextName};
-ghost use Rattle.authenticode_core.specs.Inside.OthersCursor.{GivesPlaces};
+ghost use Rattle.authenticode_core.specs.OthersCursor.{GivesPlaces};
 
 use crate::path::others::Source;
 use x509_core::CertType;

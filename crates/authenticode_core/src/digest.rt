@@ -11,8 +11,8 @@ use der_core::tag::{OBJECT_IDENTIFIER, SEQUENCE};
 use der_core::{Elem, Kids, leaf_at, whole_element};
 use sig_core::{HashAlgorithm, ShaVariant};
 
-/// The digest algorithm of an AlgorithmIdentifier, given as octets.
-pub(crate) fn digest_named(algorithm: &[u8]) -> Option<HashAlgorithm>
+/// The digest algorithm of an AlgorithmIdentifier, given as octets. It doesn't allocate.
+pub fn digest_named(algorithm: &[u8]) -> Option<HashAlgorithm>
     ensures { (element : DerElement) → IsKept algorithm.now element → MatchOption result
         ((hash : HashAlgorithm) → NamesDigest element hash → ⊥)
         (NamesDigest element) }

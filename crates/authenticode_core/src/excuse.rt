@@ -5,8 +5,7 @@ ghost use Rattle.cms_types.specs.SignedView.{data_elements};
 ghost use Rattle.der_core.specs.Rules.{OrMemory};
 ghost use Rattle.x509_types.specs.CertificateElements.{CertificateElements};
 ghost use Rattle.x509_types.specs.CertificateView.{view_elements};
-ghost use Rattle.authenticode_core.specs.Excuses.{HasBadStamp, HasNoExcuse, HasReason, IsForStamping, IsLinkedToken, IsListedToken, IsUnlinkedStamp, IsUnlistedStamp, NamesTimeStamping};
-ghost use Rattle.authenticode_core.specs.Inside.ExcuseSteps.{LeadsStamping};
+ghost use Rattle.authenticode_core.specs.Excuses.{HasBadStamp, HasNoExcuse, HasReason, IsForStamping, IsLinkedToken, IsListedToken, IsUnlinkedStamp, IsUnlistedStamp, LeadsStamping, NamesTimeStamping};
 ghost use Rattle.authenticode_core.specs.Places.{StandsAt};
 ghost use Rattle.authenticode_core.specs.SigningRules.{IsBagOf};
 ghost use Rattle.authenticode_core.specs.declared.error.AuthenticodeError.TheVariants as errors;
@@ -78,8 +77,8 @@ fn names_time_stamping(signed_data: &SignedView<'_>) -> bool
 }
 
 /// The first certificate of a token, if some certificate of it has the extended key usage time
-/// stamping.
-fn first_of_stamping<'a>(token: &SignedView<'a>) -> Option<BagCertificate<'a>>
+/// stamping (RFC 5280 4.2.1.12). It doesn't allocate.
+pub fn first_of_stamping<'a>(token: &SignedView<'a>) -> Option<BagCertificate<'a>>
     ensures { MatchOption result
         ((bag : List CertificateElements) → IsForStamping (data_elements token.now) bag → ⊥)
         (λ first. LeadsStamping (data_elements token.now) (view_elements first.certificate)) }

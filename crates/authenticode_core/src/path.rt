@@ -9,7 +9,7 @@ ghost use Rattle.x509_core.specs.Link.{IsCountFor};
 ghost use Rattle.x509_core.specs.declared.error.CertError.TheVariants as errors;
 ghost use Rattle.authenticode_core.specs.Excuses.{IsLinkedToken, IsUnlinkedToken, any_time};
 ghost use Rattle.authenticode_core.specs.Inside.Linking.{IsBrokenNext, IsLinkedSoFar, IsNextLink, IsNoLink};
-ghost use Rattle.authenticode_core.specs.Inside.OthersCursor.{AreLeft};
+ghost use Rattle.authenticode_core.specs.OthersCursor.{AreLeft};
 ghost use Rattle.authenticode_core.specs.IssuerWalk.{IsIssuerPath};
 ghost use Rattle.authenticode_core.specs.LinkedPath.{AreLinkedAt, IsUnlinkedAt, IsVouchedPath};
 ghost use Rattle.authenticode_core.specs.Places.{StandsAt};

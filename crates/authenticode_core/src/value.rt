@@ -3,8 +3,7 @@
 ghost use Rattle.std.specs.Prelude.{◌≡◌, ◌↔◌, IsTrue, MatchResult};
 ghost use Rattle.der_core.specs.DerElement.{DerElement};
 ghost use Rattle.der_core.specs.Encoding.{IsPaddedEncoding};
-ghost use Rattle.authenticode_core.specs.Basic.{IsPadding, IsMalformedPadded, RefusesValue};
-ghost use Rattle.authenticode_core.specs.Inside.Form.{LiesIn};
+ghost use Rattle.authenticode_core.specs.Basic.{IsMalformedPadded, IsPadding, LiesIn, RefusesValue};
 ghost use Rattle.x509_core.specs.declared.error.CertError.{CertError};
 ghost use Rattle.key_core.specs.declared.element.Element.{Element};
 
@@ -19,7 +18,7 @@ use x509_core::CertError;
 const MOST_PADDING: usize = 7;
 
 /// The signed data in a WIN_CERTIFICATE. It doesn't allocate.
-pub(crate) fn read_signed_data<'a>(bytes: &'a [u8]) -> Result<SignedView<'a>, CheckError>
+pub fn read_signed_data<'a>(bytes: &'a [u8]) -> Result<SignedView<'a>, CheckError>
     ensures { MatchResult result
         (λ found. (element : DerElement) × LiesIn bytes.now element found)
         (RefusesValue bytes.now) }

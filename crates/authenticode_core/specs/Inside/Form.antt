@@ -1,15 +1,11 @@
 -- The parts of signed data of the form that are read, borrowed.
-use Rattle.std.specs.Prelude.{◌≡◌, ℕ, List, Ok}
+use Rattle.std.specs.Prelude.{◌≡◌}
 use Rattle.cms_types.specs.SignedData.{signed_data_elements}
 use Rattle.cms_types.specs.SignedDataElements.{SignedDataElements}
-use Rattle.cms_types.specs.SignedView.{IsSignedView}
 use Rattle.cms_types.specs.SignerView.{signer_elements_at}
 use Rattle.cms_types.specs.declared.signed_data.SignedData.{SignedData}
-use Rattle.cms_types.specs.declared.signed_data.view.SignedView.{SignedView}
 use Rattle.der_core.specs.DerElement.{DerElement}
 use Rattle.der_core.specs.Elements.{sequence}
-use Rattle.der_core.specs.Encoding.{IsPaddedEncoding}
-use Rattle.wincert_core.specs.Refusal.{contents_in}
 use Rattle.authenticode_core.specs.FormRules.{HasForm}
 use Rattle.authenticode_core.specs.SignedFields.{HasIndirectData, IndirectData, indirect_kids}
 use Rattle.authenticode_core.specs.declared.form.Content.{Content}
@@ -18,14 +14,6 @@ use Rattle.authenticode_core.specs.declared.form.Form.{Form}
 -- the fields are those of a value
 abbrev pub AreSpelled : SignedDataElements → Type 0
 AreSpelled f = (value : SignedData) × (f ≡ signed_data_elements value)
-
--- The octets begin with a WIN_CERTIFICATE whose certificate is this element, with at most seven
--- zeros after it, and the view is one of it.
-pub record LiesIn (octets : List ℕ) (element : DerElement) (view : SignedView) : Type 0 where
-  pub certificate : List ℕ
-  pub named : contents_in octets ≡ Ok certificate
-  pub spelled : IsPaddedEncoding certificate element
-  pub is : IsSignedView element view
 
 -- The content is indirect data, with this element, algorithm and digest.
 pub record IsIndirectContent (f : SignedDataElements) (d : IndirectData)

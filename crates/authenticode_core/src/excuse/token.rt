@@ -19,7 +19,7 @@ use der_core::Elem;
 
 /// The first time-stamp token in the first unsigned attribute of the first signer, if that
 /// attribute holds tokens. It doesn't allocate.
-pub(crate) fn token_of<'a>(signed_data: &SignedView<'a>) -> Option<SignedView<'a>>
+pub fn token_of<'a>(signed_data: &SignedView<'a>) -> Option<SignedView<'a>>
     ensures { MatchOption result
         ((t : SignedDataElements) → HasToken (data_elements signed_data.now) t → ⊥)
         (λ token. HasToken (data_elements signed_data.now) (data_elements token)) }
@@ -31,8 +31,8 @@ pub(crate) fn token_of<'a>(signed_data: &SignedView<'a>) -> Option<SignedView<'a
     SignedView::read(first)
 }
 
-/// The first signer.
-pub(crate) fn first_signer_of<'a>(signed_data: &SignedView<'a>) -> Option<SignerView<'a>>
+/// The first signer. It doesn't allocate.
+pub fn first_signer_of<'a>(signed_data: &SignedView<'a>) -> Option<SignerView<'a>>
     ensures { MatchOption result
         ((g : SignerElements) → IsFirstSigner (data_elements signed_data.now) g → ⊥)
         (λ signer. IsFirstSigner (data_elements signed_data.now) (signer_elements_at signer)) }

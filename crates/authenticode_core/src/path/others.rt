@@ -5,7 +5,7 @@ ghost use Rattle.x509_types.specs.CertificateElements.{CertificateElements};
 ghost use Rattle.x509_types.specs.CertificateView.{view_elements};
 ghost use Rattle.authenticode_core.specs.BagCursor.{StandsIn};
 ghost use Rattle.authenticode_core.specs.Excuses.{AreOthersThan};
-ghost use Rattle.authenticode_core.specs.Inside.OthersCursor.{AreLeft, GivesPlaces, IsFirstOf, unread_members};
+ghost use Rattle.authenticode_core.specs.OthersCursor.{AreLeft, GivesPlaces, IsFirstOf, unread_members};
 ghost use Rattle.authenticode_core.specs.IssuerWalk.{IsIssuerPath};
 
 use crate::path::issuer_walk::IssuerWalk;
@@ -23,7 +23,7 @@ pub(crate) enum Source<'a> {
 /// Certificates without those with a given subject, given as octets. They are read once, without
 /// allocating.
 #[derive(Clone, Copy)]
-pub(crate) struct Others<'a> {
+pub struct Others<'a> {
     source: Source<'a>,
     subject: &'a [u8],
 }
@@ -48,7 +48,7 @@ impl<'a> Source<'a> {
 
 impl<'a> Others<'a> {
     /// The certificates of the issuer path of a certificate, from a bag at its beginning.
-    pub(crate) fn on_path(bag: Bag<'a>, signer: &CertView<'a>) -> Others<'a>
+    pub fn on_path(bag: Bag<'a>, signer: &CertView<'a>) -> Others<'a>
         ensures { (certificates : List CertificateElements) → StandsIn bag.entry certificates
             → bag.entry.place ≡ 0
             → (path : List ℕ) × IsIssuerPath certificates (view_elements signer.now) path
@@ -61,7 +61,7 @@ impl<'a> Others<'a> {
     }
 
     /// The certificates of a bag at its beginning, without those with the subject of this one.
-    pub(crate) fn in_bag(bag: Bag<'a>, first: &CertView<'a>) -> Others<'a>
+    pub fn in_bag(bag: Bag<'a>, first: &CertView<'a>) -> Others<'a>
         ensures { (certificates : List CertificateElements) → StandsIn bag.entry certificates
             → bag.entry.place ≡ 0
             → (places : List ℕ) × AreOthersThan certificates (view_elements first.now) places
@@ -74,7 +74,7 @@ impl<'a> Others<'a> {
     }
 
     /// The next certificate with another subject, with its index in the bag.
-    pub(crate) fn next(&mut self) -> Option<BagCertificate<'a>>
+    pub fn next(&mut self) -> Option<BagCertificate<'a>>
         ensures fewer { IfSome result (λ _. length (unread_members self.new.source)
             < length (unread_members self.old.source)) }
         ensures next { (bag : List CertificateElements) (places : List ℕ)

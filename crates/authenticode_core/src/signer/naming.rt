@@ -3,25 +3,28 @@
 
 ghost use Rattle.std.specs.Prelude.{◌≡◌, ◌↔◌, List, IsTrue, IfSome, MatchOption};
 ghost use Rattle.cms_types.specs.SignedView.{data_elements};
+ghost use Rattle.cms_types.specs.SignerView.{signer_elements_at};
 ghost use Rattle.der_core.specs.DerElement.{DerElement};
 ghost use Rattle.der_core.specs.Encoding.{encoding};
 ghost use Rattle.der_core.specs.Lent.{at_option};
 ghost use Rattle.der_core.specs.Optional.{members_of};
 ghost use Rattle.x509_types.specs.CertificateElements.{CertificateElements, certificate_of};
 ghost use Rattle.x509_types.specs.CertificateView.{view_elements};
+ghost use Rattle.authenticode_core.specs.BagSigner.{HasNoSigner};
 ghost use Rattle.authenticode_core.specs.CertificateBag.{IsBag, IsMember};
 ghost use Rattle.authenticode_core.specs.Inside.Naming.{AsksNext, FindsNext, IsFirstOfName, IsNamedAt};
 ghost use Rattle.authenticode_core.specs.Inside.Wanted.{IsNamedBy, IsWanted};
 ghost use Rattle.authenticode_core.specs.LeftMembers.{left_members};
 ghost use Rattle.authenticode_core.specs.Places.{HasNoPlace, IsLeastPlace};
-ghost use Rattle.authenticode_core.specs.SigningRules.{AsksForPurposes, IsBagOf};
+ghost use Rattle.authenticode_core.specs.SignedFields.{IsFirstSigner, signers_of};
+ghost use Rattle.authenticode_core.specs.SigningRules.{AsksForPurposes, IsBagOf, IsSignerCertificate};
 ghost use Rattle.authenticode_core.specs.WalkCursor.{LooksFrom};
 
 use crate::path::issuer_walk::IssuerWalk;
 use crate::signer::bag::BagCertificate;
 use crate::signer::certificates::{certificate_bag, issuer_walk_of};
 use crate::signer::wanted::Wanted;
-use cms_types::SignedView;
+use cms_types::{SignedView, SignerView};
 use der_core::tag::{INTEGER, SEQUENCE};
 use der_core::{Elem, Kids, is_same, leaf_at};
 use x509_types::CertView;
@@ -35,6 +38,28 @@ const VERSION: u8 = 0xA0;
 pub(crate) struct Named<'a> {
     pub(crate) certificate: BagCertificate<'a>,
     pub(crate) asks_for_purposes: bool,
+}
+
+/// The certificate of the first signer, with its index, `None` if there is no such certificate (RFC
+/// 5652 5.3, 10.2.4). It doesn't allocate.
+pub fn signer_certificate<'a>(
+    signed_data: &SignedView<'a>,
+    signer: &SignerView<'a>,
+) -> Option<BagCertificate<'a>>
+    requires { IsFirstSigner (data_elements signed_data.now) (signer_elements_at signer.now) }
+    ensures { (bag : List CertificateElements) × IsBagOf (data_elements signed_data.now) bag
+        × MatchOption result (HasNoSigner (signers_of (data_elements signed_data.now)) bag)
+        (λ named. IsSignerCertificate (data_elements signed_data.now) bag named.place
+        (view_elements named.certificate)) }
+{
+    let Some((issuer, serial_number)) = signer.issuer_and_serial() else {
+        let _certificates = certificate_bag(signed_data).count();
+        return None;
+    };
+    match named_certificate(signed_data, issuer, serial_number) {
+        Some(named) => Some(named.certificate),
+        None => None,
+    }
 }
 
 /// The first certificate of signed data with this issuer, given as octets, and this serial number,

@@ -2,7 +2,7 @@ use Rattle.std.proofs.Common.{◌≡◌, ℕ, List, length}
 use Rattle.der_core.specs.DerElement.{DerElement}
 use Rattle.der_core.specs.Encoding.{encoding}
 use Rattle.x509_types.specs.CertificateElements.{CertificateElements}
-use Rattle.authenticode_core.specs.Inside.OthersCursor.{GivesPlaces, unread_members}
+use Rattle.authenticode_core.specs.OthersCursor.{GivesPlaces, unread_members}
 use Rattle.authenticode_core.proofs.LastAuthority.{NamedSoFar}
 use Rattle.authenticode_core.proofs.authority.last_name.Given as goal
 

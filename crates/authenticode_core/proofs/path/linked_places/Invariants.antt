@@ -1,6 +1,6 @@
 use Rattle.std.proofs.Common.{ℕ, List, length}
 use Rattle.x509_types.specs.CertificateElements.{CertificateElements}
-use Rattle.authenticode_core.specs.Inside.OthersCursor.{AreLeft, unread_members}
+use Rattle.authenticode_core.specs.OthersCursor.{AreLeft, unread_members}
 use Rattle.authenticode_core.proofs.LinkedPlaces.{Linked}
 use Rattle.authenticode_core.proofs.path.linked_places.Given as goal
 

@@ -1,6 +1,6 @@
 use Rattle.std.proofs.Common.{◌≤◌, ℕ, List, length}
 use Rattle.x509_types.specs.CertificateElements.{CertificateElements}
-use Rattle.authenticode_core.specs.Inside.OthersCursor.{AreLeft, unread_members}
+use Rattle.authenticode_core.specs.OthersCursor.{AreLeft, unread_members}
 use Rattle.authenticode_core.proofs.path.others.Others.next.Given as goal
 
 -- the skipped certificates had the subject, so the same indices are left

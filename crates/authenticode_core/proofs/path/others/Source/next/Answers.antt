@@ -1,5 +1,5 @@
 use Rattle.std.proofs.Common.{subst}
-use Rattle.authenticode_core.specs.Inside.OthersCursor.{GivesPlaces}
+use Rattle.authenticode_core.specs.OthersCursor.{GivesPlaces}
 use Rattle.authenticode_core.specs.declared.path.others.Source.{Source}
 use Rattle.authenticode_core.proofs.OtherSteps.{walk_steps, bag_steps}
 use Rattle.authenticode_core.proofs.path.others.Source.next.Goals as goal
