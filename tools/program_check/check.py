@@ -20,6 +20,9 @@ from program_check.signature import RSA_PSS, Signature, further_entries
 from verdict_table import DIGESTS, NotASignatureFile, TooManyAsked
 
 MOST_OCTETS = 16_777_216
+SHORTEST_MODULUS = 2048
+TWO_ENTRIES = "the first entry of the certificate table is checked (osslsigncode refuses a program of two entries; sbverify accepts it if one is good)"
+LAST_SECOND = "the date is the last second of the certificate '{}', which counts (RFC 5280 4.1.2.5); openssl and osslsigncode take it for expired"
 NO_CHAIN = "--no-chain"
 
 
@@ -67,6 +70,18 @@ def read_most(file):
     """The octets of a file, of a long one as many as make the programs refuse it for that."""
     with open(file, "rb") as opened:
         return opened.read(MOST_OCTETS + 1)
+
+
+def weaknesses(digest, signer):
+    """What is weak about a signature, and which other programs refuse it for its digest."""
+    found = []
+    if digest in ("md5", "sha1"):
+        found.append(f"{digest} is weak: whoever signs can make two programs of one digest; Windows refuses such signatures in many places")
+    if digest is not None and digest != "sha256":
+        found.append("sbverify knows SHA-256 alone, and refuses this program")
+    if signer is not None and signer.has_rsa_key() and signer.modulus_bits() < SHORTEST_MODULUS:
+        found.append(f"the signer's key of {signer.modulus_bits()} bits is short")
+    return found
 
 
 class Check:
@@ -150,6 +165,7 @@ class Check:
             report.signer = signature.certificates[index].shown()
         report.description = dict(zip(("name", "link"), signature.description()))
         report.stated_time = signature.stated_time()
+        report.notes += weaknesses(stated[0] if stated else None, signature.certificates[index] if index is not None else None)
         self.describe_others(subject)
 
     def describe_others(self, subject):
@@ -157,8 +173,10 @@ class Check:
         found = [f"in an attribute: {one}" for one in subject.signature.nested()]
         if self.question.digest is None:
             _, _, at, length = signed_program.parts(subject.octets)
-            found += [f"as a further entry: {one}" for one in further_entries(subject.octets[at:at + length], subject.entry)]
-        self.report.other_signatures = [f"{one}; not looked at here: `osslsigncode verify`, `sbverify --list` or `signtool verify /all` do" for one in found]
+            further = further_entries(subject.octets[at:at + length], subject.entry)
+            found += [f"as a further entry: {one}" for one in further]
+            self.report.notes += [TWO_ENTRIES] if further else []
+        self.report.other_signatures = [f"{one}; not checked here: `osslsigncode verify` or `signtool verify /all` do" for one in found]
 
     # The date.
 
@@ -262,6 +280,8 @@ class Check:
     def describe_path(self, subject, path):
         one = subject.signature.certificates[subject.signature.signers_index()]
         line = [one, *path.parents]
+        date = text.whole_moment(self.report.date["value"])
+        self.report.notes += [LAST_SECOND.format(each.called()) for each in line if each.ends() == date]
         self.report.path = [{"subject": each.subject, "sha256": each.fingerprint(), "valid_from": each.begins(), "valid_to": each.ends(),
                              "root": at == len(line) - 1} for at, each in enumerate(line)]
         self.report.root = {"subject": path.root.certificate.subject, "sha256": path.root.certificate.fingerprint(), "file": path.root.file}

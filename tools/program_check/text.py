@@ -84,9 +84,14 @@ def moment_of(element):
     return moment(year_of(element).partition(".")[0])
 
 
+def whole_moment(date):
+    """A DATE with its second: that of a day is the first."""
+    return date if "T" in date else f"{date}T00:00:00"
+
+
 def shown_moment(date):
     """A DATE for people."""
-    return f"{date.replace('T', ' ')} UTC" if "T" in date else f"{date} 00:00:00 UTC"
+    return f"{whole_moment(date).replace('T', ' ')} UTC"
 
 
 def counted(many, one, more=None):
