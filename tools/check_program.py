@@ -17,14 +17,17 @@ what the proved programs answer, and the verdict in one sentence.
   --digest HASH         PROGRAM is the signature of a program with this digest
   --programs FOLDER     where picky, picky_pe and picky_anchor are; else in crates/NAME/out,
                         else on the PATH
+  --try                 run them from their sources by `rt try`, where they aren't built: it
+                        takes some minutes, and nothing is proved
 
 Two proved programs decide: `picky_pe` whether the signature is one over this file by this
 signer, `picky_anchor` whether a path leads from its certificate to a root.  openssl (3.0 or
 later) verifies the signatures and the stamps.  docs/MANUAL.md says what is proved.
 
 The exit status is 0 if both accept, 1 if one refuses, or if they disagree; 2 if the words
-are wrong or a program is missing, 4 if a file can't be read, 5 if the answer can't be
-written, 6 if PROGRAM is longer than 16 MiB, 7 if there isn't enough memory.
+are wrong or a program is missing, 3 if one takes a line of the table for a bad one, 4 if a
+file can't be read, 5 if the answer can't be written, 6 if PROGRAM is longer than 16 MiB, 7
+if there isn't enough memory.
 """
 
 import json
@@ -36,7 +39,7 @@ from time import monotonic
 from common import command
 from program_check import roots
 from program_check.check import Question, check
-from program_check.programs import Programs
+from program_check.programs import Programs, Tried
 from program_check.report import Report
 
 DATE = re.compile(r"\d{4}-\d\d-\d\d(T\d\d:\d\d:\d\d)?")
@@ -60,6 +63,7 @@ class Words:
     digest: object = None
     programs: object = None
     json: bool = False
+    tried: bool = False
 
     @classmethod
     def of(cls, arguments):
@@ -70,8 +74,8 @@ class Words:
                 getattr(found, LISTS[word]).extend(found.taken(word, left))
             elif word in VALUES:
                 found.set(word, *cls.first(word, left))
-            elif word == "--json":
-                found.json = True
+            elif word in FLAGS:
+                setattr(found, FLAGS[word], True)
             elif word.startswith("--"):
                 raise Wrong(f"{word} is no option")
             elif found.program is not None:
@@ -105,6 +109,7 @@ class Words:
 
 
 LISTS = {"--root": "root", "--stamp-root": "stamp_root"}
+FLAGS = {"--json": "json", "--try": "tried"}
 VALUES = {"--at": ("at", DATE), "--digest": ("digest", DIGEST), "--programs": ("programs", None)}
 
 
@@ -123,7 +128,8 @@ def question_of(words):
     """What is asked; OSError and roots.Unreadable where a file of roots can't be read."""
     trusted = roots.from_files(words.root) if words.root else roots.of_system()
     stamp_roots = roots.from_files(words.stamp_root) if words.stamp_root else trusted
-    return Question(words.program, trusted, stamp_roots, Programs(words.programs), words.at, words.digest, None, Progress())
+    programs = Tried() if words.tried else Programs(words.programs)
+    return Question(words.program, trusted, stamp_roots, programs, words.at, words.digest, None, Progress())
 
 
 def reported(words):

@@ -10,7 +10,7 @@ from judges import chain_reader, check_judge, pe_judge
 from judges.chain_reader import Read, Refused
 from judges.check_judge import Policy
 from judges.verdict_rows import verdicts
-from program_check.programs import Answer
+from program_check.programs import Answer, Programs
 
 # By the text of a refusal.
 PE_NAMES = {
@@ -73,10 +73,11 @@ def anchored_line(anchors, checked, pool, date, table):
     return "refused NoAnchoredPath"
 
 
-class StandIn:
+class StandIn(Programs):
     """The programs, by the reference implementations."""
 
     def __init__(self):
+        super().__init__()
         self.asked = []
 
     def run(self, program, words, shown):

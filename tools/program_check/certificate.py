@@ -96,5 +96,6 @@ class Certificate:
         return {
             "subject": self.subject, "issuer": self.issuer, "serial": self.parts.serial.hex(),
             "sha256": self.fingerprint(), "sha1": self.fingerprint(sha1), "key": self.key(),
+            "key_sha256": sha256(self.parts.key_octets()).hexdigest(),
             "valid_from": self.begins(), "valid_to": self.ends(), "usages": self.usages(),
         }

@@ -22,6 +22,7 @@ from verdict_table import DIGESTS, NotASignatureFile, TooManyAsked
 MOST_OCTETS = 16_777_216
 SHORTEST_MODULUS = 2048
 TWO_ENTRIES = "the first entry of the certificate table is checked (osslsigncode refuses a program of two entries; sbverify accepts it if one is good)"
+NAMESAKES = "the signature has several certificates of the name '{}', and the path goes through one of them: osslsigncode and sbverify try the first alone, and may refuse the program"
 LAST_SECOND = "the date is the last second of the certificate '{}', which counts (RFC 5280 4.1.2.5); openssl and osslsigncode take it for expired"
 NO_CHAIN = "--no-chain"
 
@@ -54,7 +55,7 @@ class Subject(NamedTuple):
 
 def check(question):
     """The report on a program."""
-    report = Report(str(question.file))
+    report = Report(str(question.file), proved=question.programs.proved)
     try:
         with TemporaryDirectory() as folder:
             Check(question, report, anchors.Files(Path(folder))).run()
@@ -282,9 +283,15 @@ class Check:
         line = [one, *path.parents]
         date = text.whole_moment(self.report.date["value"])
         self.report.notes += [LAST_SECOND.format(each.called()) for each in line if each.ends() == date]
+        self.report.notes += [NAMESAKES.format(each.called()) for each in line[1:] if self.has_namesake(subject, each)]
         self.report.path = [{"subject": each.subject, "sha256": each.fingerprint(), "valid_from": each.begins(), "valid_to": each.ends(),
                              "root": at == len(line) - 1} for at, each in enumerate(line)]
         self.report.root = {"subject": path.root.certificate.subject, "sha256": path.root.certificate.fingerprint(), "file": path.root.file}
+
+    @staticmethod
+    def has_namesake(subject, certificate):
+        """Whether another certificate of the signature has the same name."""
+        return any(one.parts.subject == certificate.parts.subject and one != certificate for one in subject.signature.certificates)
 
     def refuse_signature(self, subject, asked):
         """The signature is refused: why."""

@@ -30,6 +30,8 @@ STATUSES = {
     7: "there isn't enough memory",
 }
 SECONDS = 120
+# What `rt try` says last of a program that ended.
+TRIED = re.compile(rb"^run=ended status=(\d+) .*proved=no$", re.MULTILINE)
 VARIABLE = "PICKY_PROGRAMS"
 
 
@@ -81,6 +83,10 @@ class Answer(NamedTuple):
 class Programs:
     """The built programs, in a folder, in the crates of this repository, or on the PATH."""
 
+    # Whether they were proved when they were built, and whether calls are quick enough to look for a reason.
+    proved = True
+    quick = True
+
     def __init__(self, folder=None):
         self.folder = folder or os.environ.get(VARIABLE)
 
@@ -105,3 +111,24 @@ class Programs:
         except subprocess.TimeoutExpired as late:
             raise NotChecked(command.CANT, f"{program} didn't end within {SECONDS} seconds") from late
         return Answer(program, shown, done.returncode, done.stdout.decode("utf-8", "replace"))
+
+
+class Tried(Programs):
+    """The programs run from their sources by `rt try`, which compiles them anew at each call and proves nothing."""
+
+    proved = False
+    quick = False
+
+    def run(self, program, words, shown):
+        """The same answer; files are handed to `rt try` by their names."""
+        files = {word: f"file{place}" for place, word in enumerate(words) if isinstance(word, Path)}
+        data = [part for file, name in files.items() for part in ("--data", f"{name}={file}")]
+        called = ["rt", "try", *data, "--", *(files.get(word, str(word)) for word in words)]
+        try:
+            done = subprocess.run(called, cwd=folders.CRATES / program, stdin=subprocess.DEVNULL, capture_output=True)
+        except FileNotFoundError as refusal:
+            raise NotThere("the command rt of the kit isn't there, which --try needs") from refusal
+        ended = TRIED.search(done.stderr)
+        if not ended:
+            raise NotChecked(command.CANT, f"`rt try` in crates/{program} doesn't run the program to its end")
+        return Answer(program, f"{shown} (by rt try)", int(ended[1]), done.stdout.decode("utf-8", "replace"))

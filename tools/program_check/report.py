@@ -35,6 +35,7 @@ class Report:
     signatures: object = None
     notes: list = field(default_factory=list)
     answers: list = field(default_factory=list)
+    proved: bool = True
 
     def accept(self, sentence):
         self.verdict, self.status, self.sentence = "accepted", 0, sentence
@@ -116,7 +117,7 @@ class Report:
         for one in self.notes:
             yield row("note", one)
         for number, one in enumerate(self.answers):
-            yield row("proved" if number == 0 else "", f"{one['program']}: {one['line'] or 'status ' + str(one['status'])}")
+            yield row(("proved" if self.proved else "not proved") if number == 0 else "", f"{one['program']}: {one['line'] or 'status ' + str(one['status'])}")
         if self.signatures:
             yield row("openssl", f"{text.counted(self.signatures['asked'], 'signature')} asked about, {self.signatures['good']} good")
         if self.verdict == "accepted":
