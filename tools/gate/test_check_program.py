@@ -8,10 +8,12 @@ The programs are the reference implementations in Python (`programs_stand_in`), 
 import json
 import random
 import re
+import subprocess
 import sys
 import unittest
 from contextlib import redirect_stderr, redirect_stdout
 from io import StringIO
+from itertools import permutations
 from pathlib import Path
 from shutil import which
 from tempfile import TemporaryDirectory
@@ -39,6 +41,26 @@ NOW = "2023-06-15T12:00:00"
 STORED = signed_programs.stored()
 ROOTS = Roots([Root(signed_programs.root(), "root.der")], "root.der")
 PE_LINE, ANCHOR_LINE, CHAIN_LINE = "accepted signer=0 path= excuse=none", "anchored pool= anchor=0", "accepted parents=0"
+
+
+# What openssl says of a signature stays: each is verified once in all these tests.
+KNOWN = {}
+VERIFIED = verdict_table.Asked.is_accepted
+
+
+def remembered(asked):
+    """As `is_accepted`, which starts openssl."""
+    if asked.parts() not in KNOWN:
+        KNOWN[asked.parts()] = VERIFIED(asked)
+    return KNOWN[asked.parts()]
+
+
+def setUpModule():
+    verdict_table.Asked.is_accepted = remembered
+
+
+def tearDownModule():
+    verdict_table.Asked.is_accepted = VERIFIED
 
 
 class Stub(StandIn):
@@ -100,10 +122,7 @@ class VerdictTest(unittest.TestCase):
             ("server", "2023-06-01", "refused", "NoEKUCodeSigning"),
             ("by other", "2023-06-01", "refused", "InvalidCertificate:InvalidChain:AuthorityKeyIdMismatch"),
             ("stamped", "2031-01-01", "refused", "InvalidCertificate:CertificateExpired"),
-            ("long, none", None, None, None),
         ):
-            if label not in STORED:
-                continue
             report = checked(STORED[label].octets, at=at)
             self.assertEqual((report.verdict, report.reason, report.status), (verdict, reason, int(verdict != "accepted")), (label, at))
             self.assertEqual(report.root is not None, verdict == "accepted" or reason == "NoEKUCodeSigning", (label, at))
@@ -115,8 +134,9 @@ class VerdictTest(unittest.TestCase):
         self.assertEqual(report.root["file"], "root.der")
         self.assertEqual(report.digest["value"], signed_program.image_digest(one, "sha256"))
         self.assertEqual(report.date, {"value": NOW, "source": "now"})
-        self.assertEqual([each["line"] for each in report.answers], ["accepted signer=2 path= excuse=none", "anchored pool=1 anchor=0"])
-        self.assertTrue(report.sentence.startswith("'Publisher' signed this program, and a path leads from its certificate to the root 'Root'"))
+        self.assertEqual([each["line"] for each in report.answers], [PE_LINE, "anchored pool=1 anchor=0"])
+        self.assertTrue(any("in the order of the path" in note for note in report.notes))
+        self.assertTrue(report.sentence.startswith("'Publisher' signed this program, and its certificate leads to the root 'Root'"))
 
     def test_fields_are_openssl_s(self):
         report = checked(STORED["three"].octets)
@@ -180,8 +200,8 @@ class VerdictTest(unittest.TestCase):
         report = checked(STORED["three"].octets, Roots([*others, Root(signed_programs.root(), "root.der")], "many"))
         self.assertEqual((report.verdict, report.root["file"]), ("accepted", "again.der"))
 
-    def test_the_signer_comes_first_in_a_copy(self):
-        """Another certificate of the signer's subject ahead of the signer's."""
+    def test_a_namesake(self):
+        """Another certificate of the signer's subject ahead of the signer's: the usages that are looked at are the signer's."""
         octets = STORED["three"].octets
         entry = signed_program.signature(octets)
         element = verdict_table.content_info_in(entry)[0]
@@ -197,7 +217,17 @@ class VerdictTest(unittest.TestCase):
         der = write(element._replace(kids=(element.kids[0], element.kids[1]._replace(kids=(signed._replace(kids=tuple(kids)),)))))
         report = checked(with_entry(octets, basic_world.signature_file(der)))
         self.assertEqual((report.verdict, report.answers[0]["line"]), ("accepted", PE_LINE))
-        self.assertTrue(any("a copy was checked" in note for note in report.notes))
+        self.assertTrue(any("in the order of the path" in note for note in report.notes))
+
+    def test_the_order_of_the_file(self):
+        """Whatever the order of the certificates, the answer is the same."""
+        octets = STORED["three"].octets
+        signature = Signature(signed_program.signature(octets))
+        for order in permutations(signature.certificates):
+            report = checked(with_entry(octets, signature.in_order(order)))
+            self.assertEqual((report.verdict, report.answers[0]["line"], len(report.path)), ("accepted", PE_LINE, 3))
+            in_order = [one.called() for one in order][:2] == ["Publisher", "Authority"]
+            self.assertEqual(any("in the order of the path" in note for note in report.notes), not in_order)
 
 
 def portable_executable_signed():
@@ -238,7 +268,7 @@ class DisagreementTest(unittest.TestCase):
 
     def test_another_signer(self):
         """The line is about a certificate that isn't the one that is shown."""
-        for line in "accepted signer=0 path= excuse=none", "accepted signer=9 path= excuse=none":
+        for line in "accepted signer=1 path= excuse=none", "accepted signer=9 path= excuse=none":
             report = self.of("picky_pe", 0, line + "\n")
             self.assert_refused(report, line)
             self.assertIn("the programs disagree", report.sentence)
@@ -247,7 +277,7 @@ class DisagreementTest(unittest.TestCase):
     def test_an_excuse(self):
         """The one program finds the signer expired, the other one valid."""
         for excuse in "bag", "token":
-            self.assert_refused(self.of("picky_pe", 0, f"accepted signer=2 path= excuse={excuse}\n"), excuse)
+            self.assert_refused(self.of("picky_pe", 0, f"accepted signer=0 path= excuse={excuse}\n"), excuse)
 
     def test_a_path_of_no_certificates(self):
         for line in ("anchored pool=7 anchor=0", "anchored pool=1 anchor=1", "anchored pool= anchor=8", "anchored pool=1,1 anchor=0",
@@ -259,19 +289,20 @@ class DisagreementTest(unittest.TestCase):
     def test_the_digest_is_another(self):
         """The program accepts the digest of a file that has another one."""
         octets = changed(STORED["three"].octets, 600)
-        report = checked(octets, programs=Stub("picky_pe", 0, "accepted signer=2 path= excuse=none\n"))
+        report = checked(octets, programs=Stub("picky_pe", 0, PE_LINE + "\n"))
         self.assert_refused(report, "a changed file")
         self.assertIn("the programs disagree", report.sentence)
 
     def test_no_answers(self):
         """Lines and statuses that aren't those of the programs."""
+        right = {"picky_pe": PE_LINE, "picky_anchor": ANCHOR_LINE}
         lines = (PE_LINE, ANCHOR_LINE, CHAIN_LINE, "accepted", "accepted signer=2", "accepted signer=2 path= excuse=none extra",
                  "accepted signer=-2 path= excuse=none", "refused", "refused NoTable", "", "accepted signer=2 path= excuse=some")
         for program in "picky_pe", "picky_anchor":
             for status in (0, 1, 2, 3, 4, 5, 6, 7, 8, -11):
                 for line in lines:
                     for end in "\n", "", "\n\n":
-                        if (program, status, end, line) == ("picky_anchor", 0, "\n", ANCHOR_LINE):
+                        if (status, end, line) == (0, "\n", right[program]):
                             continue
                         report = self.of(program, status, line + end if line else "")
                         self.assert_refused(report, (program, status, line, end))
@@ -575,6 +606,22 @@ class DocumentedTest(unittest.TestCase):
         for name in (*reasons.PROGRAM, *reasons.SIGNATURE, *reasons.CHAIN):
             for said in reasons.of(name, words):
                 self.assertIsNone(re.search(r"[{}\n]", said), name)
+
+    def test_options(self):
+        """The options are in the page of the manual, in the completion and in the docstring."""
+        top = Path(__file__).resolve().parents[2]
+        known = {*check_program.LISTS, *check_program.VALUES, *check_program.FLAGS}
+        page, completion = (top / "man/check_program.1").read_text("ascii"), (top / "tools/completion/picky.bash").read_text("ascii")
+        self.assertEqual({"--" + word for word in re.findall(r"^\.It Fl -(\S+)", page, re.MULTILINE)}, known)
+        for option in known:
+            self.assertIn(f"  {option}", check_program.__doc__)
+            self.assertIn(f" {option} ", completion)
+
+    @unittest.skipUnless(which("mandoc"), "mandoc isn't there")
+    def test_pages(self):
+        for page in sorted((Path(__file__).resolve().parents[2] / "man").glob("*.1")):
+            done = subprocess.run(["mandoc", "-Tlint", "-W", "warning", page], capture_output=True, text=True)
+            self.assertEqual((done.returncode, done.stdout), (0, ""), page.name)
 
     def test_programs(self):
         self.assertEqual(set(programs.ACCEPTED), {"picky", "picky_pe", "picky_anchor"})

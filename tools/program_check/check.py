@@ -22,6 +22,7 @@ from verdict_table import DIGESTS, NotASignatureFile, TooManyAsked
 MOST_OCTETS = 16_777_216
 SHORTEST_MODULUS = 2048
 TWO_ENTRIES = "the first entry of the certificate table is checked (osslsigncode refuses a program of two entries; sbverify accepts it if one is good)"
+ORDER = "picky_pe checked a copy in which the certificates are in the order of the path that picky_anchor found: no signature is over their order"
 NAMESAKES = "the signature has several certificates of the name '{}', and the path goes through one of them: osslsigncode and sbverify try the first alone, and may refuse the program"
 LAST_SECOND = "the date is the last second of the certificate '{}', which counts (RFC 5280 4.1.2.5); openssl and osslsigncode take it for expired"
 NO_CHAIN = "--no-chain"
@@ -106,9 +107,9 @@ class Check:
         index = subject.signature.signers_index()
         pool, roots = self.others(subject, index)
         table = self.table_of(subject, index, pool, roots)
-        signer = self.ask_signature(subject, index, table, date)
-        found = self.ask_path(subject, index, pool, roots, table, date)
-        self.decide(subject, signer, found, (index, pool, roots, table, date))
+        path = self.ask_path(subject, index, pool, roots, table, date)
+        signed = self.ask_signature(subject, index, path, table, date)
+        self.decide(subject, signed, path, (index, pool, roots, table, date))
 
     # What is in the file.
 
@@ -151,7 +152,7 @@ class Check:
             answer = self.programs.run("picky", ["check", file, table, self.question.digest, date, NO_CHAIN], f"picky check {NO_CHAIN}")
         else:
             answer = self.programs.run("picky_pe", [file, table, date, NO_CHAIN], f"picky_pe {NO_CHAIN}")
-        self.report.answered(answer, "is the file signed by the signer?")
+        self.report.answered(answer, "is the file signed by the signer?", first=True)
         return answer
 
     # What is shown of it.
@@ -227,25 +228,31 @@ class Check:
         self.report.notes += [f"openssl: {one}" for one in table.lacking]
         return self.files.of("table.txt", table.text.encode("ascii"))
 
-    def ask_signature(self, subject, index, table, date):
-        """The parts of the line of acceptance, None where the signature is refused."""
+    def ask_signature(self, subject, index, path, table, date):
+        """The answer on the signature; where it accepts, it is about the signer and the digest that are shown here."""
         self.question.progress("the proved program checks the signature")
-        file, first = self.file, index is not None and subject.signature.namesake_ahead(index)
-        if first:
-            entry = subject.signature.with_signer_first()
-            octets = entry if self.question.digest is not None else with_entry(subject.octets, entry)
-            file = self.files.of("signer_first", octets)
-            self.report.notes.append(
-                "another certificate of the signer's name comes first in the file: a copy was checked in which the signer's comes first; no signature is over that order")
-        parts = self.ask(file, table, date).accepted()
-        if parts is not None:
-            self.expect_same(subject, index, 0 if first else index, parts)
-        return parts
+        file, expected = self.file, index
+        if path is not None:
+            first = [subject.signature.certificates[index], *path.parents[:-1]]
+            file, expected = self.in_order(subject, first), 0
+        answer = self.ask(file, table, date)
+        if answer.accepted() is not None:
+            self.expect_same(subject, expected, answer.accepted())
+        return answer
 
-    def expect_same(self, subject, index, expected, parts):
+    def in_order(self, subject, first):
+        """A copy of the file in which these certificates come first; the file itself where they do."""
+        entry = subject.signature.in_order(first)
+        if entry == subject.entry:
+            return self.file
+        self.report.notes.append(ORDER)
+        return self.files.of("in_order", entry if self.question.digest is not None else with_entry(subject.octets, entry))
+
+    @staticmethod
+    def expect_same(subject, expected, parts):
         """The line is about the signer and the digest that are shown here."""
-        if index is None or int(parts["signer"]) != expected:
-            raise Disagreement(f"the program names certificate {parts['signer']} as the signer's, and here it is {'none' if index is None else expected}")
+        if expected is None or int(parts["signer"]) != expected:
+            raise Disagreement(f"the program names certificate {parts['signer']} as the signer's, and here it is {'none' if expected is None else expected}")
         stated = subject.signature.stated_digest()
         if stated is None or stated[1] != subject.digest:
             raise Disagreement("the program accepts the digest of the file, and here it is another one than the signed digest")
@@ -262,21 +269,23 @@ class Check:
 
     # The answer.
 
-    def decide(self, subject, signer, path, asked):
+    def decide(self, subject, signed, path, asked):
+        """Accepted exactly where both answers are: the one on the signature without an excuse, the other with a path."""
         self.report.roots = self.question.roots.words
         if path is not None:
             self.describe_path(subject, path)
-        self.report.signer_verified = signer is not None
-        if signer is None:
-            return self.refuse_signature(subject, asked)
+        parts = signed.accepted()
+        self.report.signer_verified = parts is not None
+        if parts is None:
+            return self.refuse_signature(subject, signed.refusal(), asked)
         if path is None:
-            return self.refuse_path(subject, signer, asked)
-        if signer["excuse"] != "none":
+            return self.refuse_path(subject, asked)
+        if parts["excuse"] != "none":
             raise Disagreement("the one program finds the signer's certificate expired, and the other one doesn't")
         whose = subject.signature.certificates[asked[0]].called()
         self.report.accept(
-            f"'{whose}' signed this program, and a path leads from its certificate to the root '{path.root.certificate.called()}'; "
-            f"all of its certificates are valid at {text.shown_moment(self.report.date['value'])} ({self.report.date['source']})")
+            f"'{whose}' signed this program, and its certificate leads to the root '{path.root.certificate.called()}'; "
+            f"all certificates on the way are valid at {text.shown_moment(self.report.date['value'])} ({self.report.date['source']})")
 
     def describe_path(self, subject, path):
         one = subject.signature.certificates[subject.signature.signers_index()]
@@ -293,18 +302,13 @@ class Check:
         """Whether another certificate of the signature has the same name."""
         return any(one.parts.subject == certificate.parts.subject and one != certificate for one in subject.signature.certificates)
 
-    def refuse_signature(self, subject, asked):
+    def refuse_signature(self, subject, name, asked):
         """The signature is refused: why."""
-        name = self.refusal_name()
         index, *_, date = asked
         certificates = subject.signature.certificates
         words = explain.words_of([certificates[index]], 0, date) if index is not None else {}
         sentence, then = self.signature_error(subject, index) if name == "SignatureError" else reasons.of(name, words)
         self.report.refuse(sentence, then, name)
-
-    def refusal_name(self):
-        line = self.report.answers[0]["line"]
-        return line.removeprefix("refused ")
 
     @staticmethod
     def signature_error(subject, index):
@@ -318,7 +322,7 @@ class Check:
             return "openssl can't verify the signer's signature (see the note above)", reasons.OTHER_TOOLS
         return reasons.of("SignatureError", {})
 
-    def refuse_path(self, subject, signer, asked):
+    def refuse_path(self, subject, asked):
         """The signature is good, and no path leads to a root: why."""
         index, pool, roots, table, date = asked
         if not self.question.roots.all:

@@ -48,8 +48,9 @@ class Report:
         self.verdict, self.status, self.sentence = "not checked", status, sentence
         return self
 
-    def answered(self, answer, what):
-        self.answers.append({"program": answer.shown, "question": what, "status": answer.status, "line": answer.line()})
+    def answered(self, answer, what, first=False):
+        """Adds an answer of a program, in front or behind the others."""
+        self.answers.insert(0 if first else len(self.answers), {"program": answer.shown, "question": what, "status": answer.status, "line": answer.line()})
 
     def json(self):
         return asdict(self)

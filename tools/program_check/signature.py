@@ -9,7 +9,7 @@ from typing import NamedTuple
 from judges import chain_reader
 from judges.der_reader import Constructed, Malformed, Primitive, read_exact, write
 from judges.value_reader import Shape, dotted
-from order_bag import with_ordered_bag
+from order_bag import replaced
 from program_check import text
 from program_check.certificate import Certificate
 from verdict_table import DIGESTS, MICROSOFT_COUNTERSIGNATURE, UNFORMED, NotASignatureFile, content_info_in
@@ -110,13 +110,17 @@ class Signature:
         """The index of the certificate that the signer names, None where it isn't there."""
         return next((at for at, one in enumerate(self.certificates) if self.signer and self.signer.names(one)), None)
 
-    def namesake_ahead(self, index):
-        """Whether a certificate of the same subject comes before the one at an index."""
-        return any(one.parts.subject == self.certificates[index].parts.subject for one in self.certificates[:index])
-
-    def with_signer_first(self):
-        """The entry with the signer's certificate first; `order_bag` puts its issuers behind it."""
-        return with_ordered_bag(self.entry)
+    def in_order(self, first):
+        """The entry with these certificates in front, in their order: no signature is over the order of certificates (RFC 5652 5.4)."""
+        signed = self.element.kids[1].kids[0]
+        place = next(number for number, field in enumerate(signed.kids[3:-1], 3) if field.tag == 0xA0)
+        members, front = list(signed.kids[place].kids), []
+        for certificate in first:
+            at = next(number for number, member in enumerate(members) if write(member) == certificate.der)
+            front.append(members.pop(at))
+        signed = replaced(signed, place, Constructed(0xA0, (*front, *members)))
+        der = write(replaced(self.element, 1, replaced(self.element.kids[1], 0, signed)))
+        return self.entry[:8] + der + self.entry[8 + len(der):]
 
     def stated_digest(self):
         """The algorithm and the digest of the program in the signed content; None where they aren't read."""

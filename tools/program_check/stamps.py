@@ -69,7 +69,7 @@ def check_token(folder, moment):
 
 def check_countersignature(folder, moment):
     openssl("cms", "-verify", "-binary", "-inform", "DER", "-in", folder / "stamp", "-content", folder / "signature", "-out", "/dev/null",
-            "-CAfile", folder / "roots.pem", "-no-CApath", "-purpose", "timestampsign", "-attime", moment)
+            "-CAfile", folder / "roots.pem", "-no-CApath", "-no-CAstore", "-purpose", "timestampsign", "-attime", moment)
 
 
 def beside(folder):
