@@ -6,7 +6,6 @@ The programs are the reference implementations in Python (`programs_stand_in`), 
 """
 
 import json
-import random
 import re
 import subprocess
 import sys
@@ -25,7 +24,7 @@ import check_program
 import signed_program
 import verdict_table
 from cases import basic_world
-from common.openssl import OpensslError, openssl
+from common.openssl import openssl
 from gate import damaged_files
 from gate.programs_stand_in import StandIn
 from interop import signed_images, signed_programs, world_signatures
@@ -49,7 +48,9 @@ VERIFIED = verdict_table.Asked.is_accepted
 
 
 def remembered(asked):
-    """As `is_accepted`, which starts openssl."""
+    """As `is_accepted`, which starts openssl, unless something else is in its place."""
+    if verdict_table.openssl is not openssl:
+        return VERIFIED(asked)
     if asked.parts() not in KNOWN:
         KNOWN[asked.parts()] = VERIFIED(asked)
     return KNOWN[asked.parts()]
@@ -299,9 +300,9 @@ class DisagreementTest(unittest.TestCase):
         lines = (PE_LINE, ANCHOR_LINE, CHAIN_LINE, "accepted", "accepted signer=2", "accepted signer=2 path= excuse=none extra",
                  "accepted signer=-2 path= excuse=none", "refused", "refused NoTable", "", "accepted signer=2 path= excuse=some")
         for program in "picky_pe", "picky_anchor":
-            for status in (0, 1, 2, 3, 4, 5, 6, 7, 8, -11):
+            for status in (0, 1, 7, -11):
                 for line in lines:
-                    for end in "\n", "", "\n\n":
+                    for end in "\n", "":
                         if (status, end, line) == (0, "\n", right[program]):
                             continue
                         report = self.of(program, status, line + end if line else "")
@@ -544,38 +545,22 @@ class TextTest(unittest.TestCase):
         self.assertEqual(text.moment_of(Primitive(0x18, b"20230601123456.789Z")), "2023-06-01T12:34:56")
 
 
-def verifies_some(*words, given=b""):
-    """In place of openssl, of stamps: about every other one is verified."""
-    if damaged_files.sha256(Path(words[words.index("-in") + 1]).read_bytes()).digest()[0] % 2:
-        raise OpensslError("", "", "Verification: FAILED")
-    return b""
-
-
 class DamagedProgramsTest(unittest.TestCase):
     """Files that are damaged at random end with a sentence."""
 
     def test_some(self):
-        chance, bases = random.Random(11), [(one.octets, None) for one in STORED.values()]
-        with patch.object(verdict_table, "openssl", damaged_files.in_place_of_openssl), patch.object(stamps, "openssl", verifies_some):
-            for number in range(120):
-                octets, _ = chance.choice(bases)
-                for _ in range(chance.randint(1, 4)):
-                    at = chance.randrange(len(octets))
-                    octets = octets[:at] + bytes([chance.randrange(256)]) + octets[at + chance.choice((0, 1, 1, 1, 2)):]
-                report = checked(octets)
-                self.assertIn(report.verdict, ("accepted", "refused", "not checked"), number)
-                self.assertTrue(report.sentence, number)
-                self.assertEqual(len(report.sentence.splitlines()), 1)
+        with damaged_files.in_place(False):
+            statuses, wrong, _ = damaged_files.check(check_program, 11, 200)
+        self.assertEqual((wrong, {status for status, _ in statuses} <= {0, 1, 2}), ([], True))
+
+    def test_cut_off(self):
+        octets = STORED["stamped"].octets
+        with damaged_files.in_place(False):
+            for length in {*range(0, len(octets), 97), len(octets) - 1}:
+                report = checked(octets[:length])
+                self.assertEqual((report.verdict, len(report.sentence.splitlines())), ("refused", 1), length)
                 json.dumps(report.json())
                 self.assertTrue(list(report.lines()))
-
-    def test_damaged_signatures(self):
-        tool = signed_program
-        with patch.object(verdict_table, "openssl", damaged_files.in_place_of_openssl), patch.object(stamps, "openssl", verifies_some):
-            for octets, _ in damaged_files.files(random.Random(5), tool, 150):
-                report = checked(octets)
-                self.assertIn(report.status, (0, 1, 2))
-                self.assertEqual(len(report.sentence.splitlines()), 1)
 
 
 class QuestionsTest(unittest.TestCase):
@@ -587,8 +572,8 @@ class QuestionsTest(unittest.TestCase):
         alone = list(verdict_table.asked_of(entry))
         self.assertEqual(list(asking.questions(entry)), alone)
         more = list(asking.questions(entry, signature.certificates[1:], [Certificate(signed_programs.root())]))
-        self.assertEqual([one.parts() for one in more[:len(alone)]], [one.parts() for one in alone])
-        self.assertEqual(len(more), len(alone) + 1)
+        self.assertEqual([one.parts() for one in more[1:]], [one.parts() for one in alone])
+        self.assertEqual(more[0].message, signature.certificates[1].parts.tbs)
 
 
 class DocumentedTest(unittest.TestCase):

@@ -8,6 +8,7 @@ it has to yield the same `Asked`.
 from typing import NamedTuple
 
 import verdict_table
+from program_check import text
 from verdict_table import SIGNATURES, Asked
 
 
@@ -22,12 +23,13 @@ class Table(NamedTuple):
 def questions(entry, children=(), parents=()):
     """Each signature that the programs may ask the table about.
 
-    Those of a signature file, where there is one, and those of certificates by each
-    certificate whose subject is their issuer (RFC 5280 4.1.1.3).
+    Those of certificates by each certificate whose subject is their issuer (RFC 5280
+    4.1.1.3), and those of a signature file, where there is one; NotASignatureFile comes
+    where a part of the file isn't read, behind all others.
     """
+    yield from between(children, parents)
     if entry is not None:
         yield from verdict_table.asked_of(entry)
-    yield from between(children, parents)
 
 
 def between(children, parents):
@@ -40,15 +42,17 @@ def between(children, parents):
 
 
 def made(entry, children=(), parents=(), progress=lambda words: None):
-    """The table; TooManyAsked where there is none, NotASignatureFile where the entry is none."""
-    asked = []
-    for one in questions(entry, children, parents):
-        if len(asked) % 100 == 1:
-            progress(f"openssl verifies {len(asked)} signatures and more")
-        asked.append(one)
+    """The table; TooManyAsked where there is none."""
+    asked, unread = [], []
+    try:
+        for one in questions(entry, children, parents):
+            asked.append(one)
+    except verdict_table.NotASignatureFile as refusal:
+        unread.append(f"not all of the signature is read: {refusal}")
+    progress(f"openssl verifies {text.counted(len(asked), 'signature')}")
     lines, lacking = verdict_table.table_of(asked, 2)
     counts = {"asked": len(lines) - 1, "good": sum(line.startswith("accept ") for line in lines)}
-    return Table("".join(f"{line}\n" for line in lines), counts, lacking)
+    return Table("".join(f"{line}\n" for line in lines), counts, [*unread, *lacking])
 
 
 def verdict_on_signer(entry):

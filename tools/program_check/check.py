@@ -222,10 +222,10 @@ class Check:
         children = [signature.certificates[index], *pool] if index is not None else []
         try:
             table = asking.made(subject.entry, children, [*pool, *(root.certificate for root in roots)], self.question.progress)
-        except (TooManyAsked, NotASignatureFile) as refusal:
+        except TooManyAsked as refusal:
             raise NotChecked(2, f"no table is made for the file: {refusal}") from refusal
         self.report.signatures = table.counts
-        self.report.notes += [f"openssl: {one}" for one in table.lacking]
+        self.report.notes += [f"in the table: {text.clean(one)}" for one in table.lacking]
         return self.files.of("table.txt", table.text.encode("ascii"))
 
     def ask_signature(self, subject, index, path, table, date):
