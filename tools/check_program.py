@@ -34,6 +34,7 @@ import json
 import re
 import sys
 from dataclasses import dataclass, field
+from shutil import which
 from time import monotonic
 
 from common import command
@@ -126,6 +127,8 @@ class Progress:
 
 def question_of(words):
     """What is asked; OSError and roots.Unreadable where a file of roots can't be read."""
+    if which("openssl") is None:
+        raise command.Refusal("openssl isn't there")
     trusted = roots.from_files(words.root) if words.root else roots.of_system()
     stamp_roots = roots.from_files(words.stamp_root) if words.stamp_root else trusted
     programs = Tried() if words.tried else Programs(words.programs)

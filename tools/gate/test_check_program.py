@@ -29,7 +29,7 @@ from gate import damaged_files
 from gate.programs_stand_in import StandIn
 from interop import signed_images, signed_programs, world_signatures
 from interop.signature_making import portable_executable
-from judges.der_reader import Constructed, Primitive, read_exact, write
+from judges.der_reader import Constructed, Primitive, write
 from program_check import asking, kinds, programs, reasons, stamps, text
 from program_check.certificate import Certificate
 from program_check.programs import Answer, Disagreement, NotChecked, Programs

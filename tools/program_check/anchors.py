@@ -6,7 +6,7 @@ roots it is called several times, and the shortest path counts.
 
 from typing import NamedTuple
 
-from program_check.programs import Answer, Disagreement
+from program_check.programs import Disagreement
 
 MOST_ANCHORS, MOST_POOL = 8, 32
 PURPOSE = "code"
@@ -91,6 +91,3 @@ def find(programs, files, table, date, certificate, pool, roots):
             best = answer, path
         answers.append(answer)
     return Found([best[0]], best[1]) if best else Found([], None)
-
-
-__all__ = ["Anchored", "Answer", "Files", "Found", "find", "pool_of"]

@@ -12,19 +12,14 @@ from typing import NamedTuple
 
 import signed_program
 from ordered_program import with_entry
-from program_check import anchors, asking, explain, kinds, reasons, stamps, text
+from program_check import anchors, asking, explain, kinds, notes, reasons, stamps, text
 from program_check.certificate import LIFETIME_SIGNING
 from program_check.programs import Disagreement, NotChecked
 from program_check.report import Report
-from program_check.signature import RSA_PSS, Signature, further_entries
+from program_check.signature import Signature, further_entries
 from verdict_table import DIGESTS, NotASignatureFile, TooManyAsked
 
 MOST_OCTETS = 16_777_216
-SHORTEST_MODULUS = 2048
-TWO_ENTRIES = "the first entry of the certificate table is checked (osslsigncode refuses a program of two entries; sbverify accepts it if one is good)"
-ORDER = "picky_pe checked a copy in which the certificates are in the order of the path that picky_anchor found: no signature is over their order"
-NAMESAKES = "the signature has several certificates of the name '{}', and the path goes through one of them: osslsigncode and sbverify try the first alone, and may refuse the program"
-LAST_SECOND = "the date is the last second of the certificate '{}', which counts (RFC 5280 4.1.2.5); openssl and osslsigncode take it for expired"
 NO_CHAIN = "--no-chain"
 
 
@@ -72,18 +67,6 @@ def read_most(file):
     """The octets of a file, of a long one as many as make the programs refuse it for that."""
     with open(file, "rb") as opened:
         return opened.read(MOST_OCTETS + 1)
-
-
-def weaknesses(digest, signer):
-    """What is weak about a signature, and which other programs refuse it for its digest."""
-    found = []
-    if digest in ("md5", "sha1"):
-        found.append(f"{digest} is weak: whoever signs can make two programs of one digest; Windows refuses such signatures in many places")
-    if digest is not None and digest != "sha256":
-        found.append("sbverify knows SHA-256 alone, and refuses this program")
-    if signer is not None and signer.has_rsa_key() and signer.modulus_bits() < SHORTEST_MODULUS:
-        found.append(f"the signer's key of {signer.modulus_bits()} bits is short")
-    return found
 
 
 class Check:
@@ -167,7 +150,7 @@ class Check:
             report.signer = signature.certificates[index].shown()
         report.description = dict(zip(("name", "link"), signature.description()))
         report.stated_time = signature.stated_time()
-        report.notes += weaknesses(stated[0] if stated else None, signature.certificates[index] if index is not None else None)
+        report.notes += notes.weaknesses(stated[0] if stated else None, signature.certificates[index] if index is not None else None)
         self.describe_others(subject)
 
     def describe_others(self, subject):
@@ -177,7 +160,7 @@ class Check:
             _, _, at, length = signed_program.parts(subject.octets)
             further = further_entries(subject.octets[at:at + length], subject.entry)
             found += [f"as a further entry: {one}" for one in further]
-            self.report.notes += [TWO_ENTRIES] if further else []
+            self.report.notes += [notes.TWO_ENTRIES] if further else []
         self.report.other_signatures = [f"{one}; not checked here: `osslsigncode verify` or `signtool verify /all` do" for one in found]
 
     # The date.
@@ -200,7 +183,7 @@ class Check:
         purposes = subject.signature.certificates[index].purposes if index is not None else None
         lifetime = LIFETIME_SIGNING in (purposes or ())
         if lifetime and found:
-            self.report.notes.append("the signer's certificate is for lifetime signing: no stamp is used in place of now (osslsigncode uses it)")
+            self.report.notes.append(notes.LIFETIME)
         return lifetime
 
     # The questions to the programs.
@@ -212,7 +195,7 @@ class Check:
         checked = subject.signature.certificates[index]
         pool, cut = anchors.pool_of(subject.signature.certificates, checked)
         if cut:
-            self.report.notes.append(f"the signature has more certificates than a path is looked for in: the first {anchors.MOST_POOL} are used")
+            self.report.notes.append(notes.POOL.format(anchors.MOST_POOL))
         roots = self.question.roots.named({one.parts.issuer for one in (checked, *pool)})
         return pool, roots or self.question.roots.some(anchors.MOST_ANCHORS)
 
@@ -245,7 +228,7 @@ class Check:
         entry = subject.signature.in_order(first)
         if entry == subject.entry:
             return self.file
-        self.report.notes.append(ORDER)
+        self.report.notes.append(notes.ORDER)
         return self.files.of("in_order", entry if self.question.digest is not None else with_entry(subject.octets, entry))
 
     @staticmethod
@@ -291,8 +274,8 @@ class Check:
         one = subject.signature.certificates[subject.signature.signers_index()]
         line = [one, *path.parents]
         date = text.whole_moment(self.report.date["value"])
-        self.report.notes += [LAST_SECOND.format(each.called()) for each in line if each.ends() == date]
-        self.report.notes += [NAMESAKES.format(each.called()) for each in line[1:] if self.has_namesake(subject, each)]
+        self.report.notes += [notes.LAST_SECOND.format(each.called()) for each in line if each.ends() == date]
+        self.report.notes += [notes.NAMESAKES.format(each.called()) for each in line[1:] if self.has_namesake(subject, each)]
         self.report.path = [{"subject": each.subject, "sha256": each.fingerprint(), "valid_from": each.begins(), "valid_to": each.ends(),
                              "root": at == len(line) - 1} for at, each in enumerate(line)]
         self.report.root = {"subject": path.root.certificate.subject, "sha256": path.root.certificate.fingerprint(), "file": path.root.file}
@@ -307,20 +290,8 @@ class Check:
         index, *_, date = asked
         certificates = subject.signature.certificates
         words = explain.words_of([certificates[index]], 0, date) if index is not None else {}
-        sentence, then = self.signature_error(subject, index) if name == "SignatureError" else reasons.of(name, words)
+        sentence, then = reasons.of_signers_signature(subject, index) if name == "SignatureError" else reasons.of(name, words)
         self.report.refuse(sentence, then, name)
-
-    @staticmethod
-    def signature_error(subject, index):
-        """Why the signer's own signature isn't accepted."""
-        one, signer = subject.signature.certificates[index], subject.signature.signer
-        if not one.has_rsa_key():
-            return f"the signer's key is of another kind than RSA ({one.key()}), and the proved programs check signers with RSA keys alone", reasons.OTHER_TOOLS
-        if signer.algorithm == RSA_PSS:
-            return "the signature is by RSASSA-PSS, and the proved programs check those of PKCS #1 1.5 alone", reasons.OTHER_TOOLS
-        if asking.verdict_on_signer(subject.entry) is None:
-            return "openssl can't verify the signer's signature (see the note above)", reasons.OTHER_TOOLS
-        return reasons.of("SignatureError", {})
 
     def refuse_path(self, subject, asked):
         """The signature is good, and no path leads to a root: why."""

@@ -8,7 +8,7 @@ from typing import NamedTuple
 
 from judges import chain_reader
 from judges.der_reader import Constructed, Malformed, Primitive, read_exact, write
-from judges.value_reader import Shape, dotted
+from judges.value_reader import dotted
 from order_bag import replaced
 from program_check import text
 from program_check.certificate import Certificate
@@ -18,10 +18,8 @@ INDIRECT_DATA = "1.3.6.1.4.1.311.2.1.4"
 COUNTERSIGNATURE = "1.2.840.113549.1.9.6"
 NESTED = "1.3.6.1.4.1.311.2.4.1"
 OPUS_INFO = "1.3.6.1.4.1.311.2.1.12"
-SIGNING_TIME, CONTENT_TYPE = "1.2.840.113549.1.9.5", "1.2.840.113549.1.9.3"
+SIGNING_TIME = "1.2.840.113549.1.9.5"
 RSA_PSS = "1.2.840.113549.1.1.10"
-RSA_SIGNATURES = {"1.2.840.113549.1.1.1", "1.2.840.113549.1.1.4", "1.2.840.113549.1.1.5", "1.2.840.113549.1.1.11",
-                  "1.2.840.113549.1.1.12", "1.2.840.113549.1.1.13", "1.2.840.113549.1.1.14"}
 # What a reader here meets where elements are none of the structure that it walks through.
 NOT_READ = (*UNFORMED, Malformed)
 
@@ -56,8 +54,11 @@ class Signer(NamedTuple):
 
     def names(self, certificate):
         """Whether the certificate is named by issuer and serial number."""
-        identifier = self.identifier
-        return identifier.tag == 0x30 and (certificate.parts.issuer, certificate.parts.serial) == (write(identifier.kids[0]), identifier.kids[1].contents)
+        try:
+            issuer, serial = self.identifier.kids
+            return (certificate.parts.issuer, certificate.parts.serial) == (write(issuer), serial.contents)
+        except NOT_READ:
+            return False
 
 
 class SignedData(NamedTuple):
