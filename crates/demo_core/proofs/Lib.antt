@@ -18,3 +18,4 @@ mod StepHistories
 mod Counting
 mod Ancestors
 mod Whole
+mod OneReport
