@@ -19,3 +19,4 @@ mod Counting
 mod Ancestors
 mod Whole
 mod OneReport
+mod Running

@@ -1,7 +1,7 @@
 -- What a run of a demonstration does: its status, its cause, and the contents of the sink after it.
-use Rattle.std.specs.Prelude.{◌≡◌, ◌⊎◌, ℕ, string_bytes}
+use Rattle.std.specs.Prelude.{◌≡◌, ◌≢◌, ◌⊎◌, ℕ, length, string_bytes}
 use Rattle.der_core.specs.Counts.{HasRisen}
-use Rattle.program_frame.specs.Sink.{SinkState, Appends, IsCutShort, Keeps}
+use Rattle.program_frame.specs.Sink.{SinkState, Appends, HasRoom, IsCutShort, Keeps}
 use Rattle.program_frame.specs.Statuses as statuses
 use Rattle.program_frame.specs.declared.report.Report.{Report}
 use Rattle.demo_core.specs.Demonstration.{IsDemonstration, report_line}
@@ -36,5 +36,8 @@ pub record IsRun (count : ℕ) (out out_now : SinkState) (status : ℕ) : Type 0
       ⊎ ((status ≡ statuses.sink_failed) ⊎ (status ≡ statuses.out_of_memory))
   pub delivered : status ≡ statuses.accepted → IsDelivered count out out_now
   pub sink_failed : status ≡ statuses.sink_failed → IsLost count out out_now
+  -- a sink that exposes room for the line doesn't fail
+  pub has_room : (demonstration : Demonstration) → IsDemonstration count demonstration
+      → HasRoom out.room (length (report_line demonstration)) → status ≢ statuses.sink_failed
   -- if memory runs out, nothing is written
   pub nothing_written : status ≡ statuses.out_of_memory → Keeps out.held out_now.held

@@ -48,7 +48,13 @@ impl WholeRows {
     }
 
     /// Appends a row.
-    pub fn push(&mut self, alg: SigAlg, key: &[u8], msg: &[u8], sig: &[u8]) -> Result<(), AllocError>
+    pub fn push(
+        &mut self,
+        alg: SigAlg,
+        key: &[u8],
+        msg: &[u8],
+        sig: &[u8],
+    ) -> Result<(), AllocError>
         ensures ok { OnOk result (self.new.rows.items ≡ self.old.rows.items
             ++ row_of alg key.now msg.now sig.now ∷ []) }
         ensures err { OnErr result (self.new.rows.items ≡ self.old.rows.items) }
