@@ -4,8 +4,15 @@
 #![tactic(auto)]
 
 #[cfg(test)]
+mod demonstration;
+#[cfg(test)]
 mod issuing;
+mod laws;
+#[cfg(test)]
+mod retold;
 #[cfg(test)]
 mod sealed;
-#[cfg(test)]
 mod whole_rows;
+
+pub use laws::listed_signatures_are_sealed;
+pub use whole_rows::{WholeRow, WholeRows};
