@@ -6,6 +6,7 @@ The programs are the reference implementations in Python (`programs_stand_in`), 
 """
 
 import json
+import os
 import re
 import subprocess
 import sys
@@ -32,7 +33,7 @@ from interop.signature_making import portable_executable
 from judges.der_reader import Constructed, Primitive, write
 from program_check import asking, kinds, programs, reasons, stamps, text
 from program_check.certificate import Certificate
-from program_check.programs import Answer, Disagreement, NotChecked, Programs
+from program_check.programs import Answer, Disagreement, NotChecked, Programs, Tried
 from program_check.roots import Root, Roots
 from program_check.signature import Signature, Stamp
 
@@ -445,13 +446,14 @@ class PrintingTest(unittest.TestCase):
                 self.assertIn(part, text_of)
 
     def test_words(self):
-        for words in ([], ["--json"], ["a", "b"], ["a", "--at"], ["a", "--at", "tomorrow"], ["a", "--at", "2023-06-15", "--at", "2023-06-15"],
+        for words in ([], ["--json"], ["a", "b"], ["a", "--at"], ["a", "--at", "tomorrow"], ["a", "--at", "2023-02-29"], ["a", "--at", "2023-06-15T24:00:00"], ["a", "--at", "2023-06-15", "--at", "2023-06-15"],
                       ["a", "--root"], ["a", "--root", "--json"], ["--rot", "a"], ["a", "--digest", "0"], ["a", "--digest", "xy"]):
             status, out, errors = self.printed(*words)
             self.assertEqual((status, out), (2, ""), words)
             self.assertIn("usage:", errors)
         found = check_program.Words.of(["p", "--root", "a", "b", "--json", "--stamp-root", "c"])
         self.assertEqual((found.program, found.root, found.json, found.stamp_root), ("p", ["a", "b"], True, ["c"]))
+        self.assertTrue(all(map(check_program.is_date, ("2024-02-29", "0000-02-29", "9999-12-31T23:59:59"))))
         found = check_program.Words.of(["--root", "a", "p"])
         self.assertEqual((found.program, found.root), ("p", ["a"]))
 
@@ -494,6 +496,20 @@ class PrintingTest(unittest.TestCase):
             file.chmod(0o755)
             answer = Programs(folder).run("picky_pe", ["3"], "picky_pe")
             self.assertEqual(answer.accepted(), {"signer": "3", "path": "", "excuse": "none"})
+
+    def test_tried(self):
+        """By a stub of `rt`: the line and the status of the program, and none where it didn't end."""
+        with TemporaryDirectory() as folder:
+            file, rt = Path(folder, "file"), Path(folder, "rt")
+            file.write_bytes(b"")
+            with patch.dict(os.environ, {"PATH": folder + os.pathsep + os.environ["PATH"]}):
+                rt.write_text("#!/bin/sh\necho \"refused $*\" >&2\necho 'refused NotMz'\necho 'run=ended status=1 runners=1 proved=no' >&2\nexit 1\n")
+                rt.chmod(0o755)
+                answer = Tried().run("picky_pe", [file, file, "2023-06-15"], "picky_pe")
+                self.assertEqual((answer.refusal(), answer.shown, answer.status), ("NotMz", "picky_pe (by rt try)", 1))
+                rt.write_text("#!/bin/sh\necho 'accepted signer=0 path= excuse=none'\nexit 0\n")
+                with self.assertRaises(NotChecked):
+                    Tried().run("picky_pe", [file], "picky_pe")
 
     def test_other_files(self):
         for octets, what in (
