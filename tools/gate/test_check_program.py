@@ -34,6 +34,7 @@ from judges.der_reader import Constructed, Primitive, write
 from program_check import asking, kinds, programs, reasons, stamps, text
 from program_check.certificate import Certificate
 from program_check.programs import Answer, Disagreement, NotChecked, Programs, Tried
+from program_check.report import Report
 from program_check.roots import Root, Roots
 from program_check.signature import Signature, Stamp
 
@@ -134,6 +135,8 @@ class VerdictTest(unittest.TestCase):
         one = STORED["three"].octets
         self.assertEqual([each["subject"] for each in report.path], ["CN=Publisher", "CN=Authority", "CN=Root"])
         self.assertEqual(report.root["file"], "root.der")
+        self.assertEqual([each["subject"] for each in report.certificates], ["CN=Root", "CN=Authority", "CN=Publisher"])
+        self.assertEqual(report.certificates[2], report.signer)
         self.assertEqual(report.digest["value"], signed_program.image_digest(one, "sha256"))
         self.assertEqual(report.date, {"value": NOW, "source": "now"})
         self.assertEqual([each["line"] for each in report.answers], [PE_LINE, "anchored pool=1 anchor=0"])
@@ -593,7 +596,13 @@ class QuestionsTest(unittest.TestCase):
 
 
 class DocumentedTest(unittest.TestCase):
-    """The manual's statuses and refusals are those of the script."""
+    """What documents say of the script is so."""
+
+    def test_fields(self):
+        """The page for scripts names each field of the object."""
+        page = (Path(__file__).resolve().parents[2] / "docs/SCRIPTING.md").read_text("utf-8")
+        for field in Report("file").json():
+            self.assertIn(f"`{field}`", page)
 
     def test_refusals(self):
         manual = (Path(__file__).resolve().parents[2] / "docs/FORMATS.md").read_text("utf-8")

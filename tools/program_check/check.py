@@ -148,6 +148,7 @@ class Check:
         index = signature.signers_index()
         if index is not None:
             report.signer = signature.certificates[index].shown()
+        report.certificates = [one.shown() for one in signature.certificates]
         report.description = dict(zip(("name", "link"), signature.description()))
         report.stated_time = signature.stated_time()
         report.notes += notes.weaknesses(stated[0] if stated else None, signature.certificates[index] if index is not None else None)
