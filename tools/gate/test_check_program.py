@@ -582,6 +582,37 @@ class DamagedProgramsTest(unittest.TestCase):
                 self.assertTrue(list(report.lines()))
 
 
+def are_built():
+    """Whether the programs are there."""
+    try:
+        return all(map(Programs().path, programs.ACCEPTED))
+    except programs.NotThere:
+        return False
+
+
+@unittest.skipUnless(which("openssl") and are_built(), "openssl isn't there, or the programs aren't built")
+class BuiltTest(unittest.TestCase):
+    """The built programs answer as the reference implementations, so the reports are the same."""
+
+    def assert_same(self, octets, **words):
+        by_judges, by_programs = (checked(octets, programs=one, **words).json() | {"file": ""} for one in (StandIn(), Programs()))
+        self.assertEqual(by_programs, by_judges, words)
+
+    def test_programs(self):
+        for label, program in STORED.items():
+            for now in "2021-06-01T00:00:00", NOW, "2025-01-01T00:00:00", "2031-01-01T00:00:00", "2041-01-01T00:00:00":
+                with self.subTest(label=label, now=now):
+                    self.assert_same(program.octets, now=now)
+
+    def test_others(self):
+        octets = STORED["three"].octets
+        for other in b"", octets[:-8], octets + b"\0", changed(octets, 600), portable_executable(), b"\x7fELF":
+            self.assert_same(other)
+        file = STORED["three"].file()
+        self.assert_same(file.octets, digest=file.file_hash.hex())
+        self.assert_same(file.octets, digest="00" * 32)
+
+
 class QuestionsTest(unittest.TestCase):
     """What is asked is what `verdict_table` asks, and the links to the roots."""
 
