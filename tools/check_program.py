@@ -34,6 +34,7 @@ import json
 import re
 import sys
 from dataclasses import dataclass, field
+from datetime import datetime
 from shutil import which
 from time import monotonic
 
@@ -51,6 +52,17 @@ PATIENCE = 1.0
 
 class Wrong(Exception):
     """Why the words aren't those of a call."""
+
+
+def is_date(word):
+    """Whether a word is a day or a second that exists; of the year 0000 the programs say."""
+    if not DATE.fullmatch(word):
+        return False
+    try:
+        datetime.fromisoformat(word.replace("0000-", "0400-", 1) if word.startswith("0000-") else word)
+    except ValueError:
+        return False
+    return True
 
 
 @dataclass
@@ -104,14 +116,14 @@ class Words:
         name, form = VALUES[option]
         if getattr(self, name) is not None:
             raise Wrong(f"{option} comes twice")
-        if form and not form.fullmatch(word):
-            raise Wrong(f"'{word}' isn't in the form of {option}")
+        if form and not form(word):
+            raise Wrong(f"'{word}' isn't what {option} takes")
         setattr(self, name, word)
 
 
 LISTS = {"--root": "root", "--stamp-root": "stamp_root"}
 FLAGS = {"--json": "json", "--try": "tried"}
-VALUES = {"--at": ("at", DATE), "--digest": ("digest", DIGEST), "--programs": ("programs", None)}
+VALUES = {"--at": ("at", is_date), "--digest": ("digest", DIGEST.fullmatch), "--programs": ("programs", None)}
 
 
 class Progress:

@@ -6,6 +6,7 @@ The programs are the reference implementations in Python (`programs_stand_in`), 
 """
 
 import json
+import os
 import re
 import subprocess
 import sys
@@ -32,7 +33,8 @@ from interop.signature_making import portable_executable
 from judges.der_reader import Constructed, Primitive, write
 from program_check import asking, kinds, programs, reasons, stamps, text
 from program_check.certificate import Certificate
-from program_check.programs import Answer, Disagreement, NotChecked, Programs
+from program_check.programs import Answer, Disagreement, NotChecked, Programs, Tried
+from program_check.report import Report
 from program_check.roots import Root, Roots
 from program_check.signature import Signature, Stamp
 
@@ -133,6 +135,8 @@ class VerdictTest(unittest.TestCase):
         one = STORED["three"].octets
         self.assertEqual([each["subject"] for each in report.path], ["CN=Publisher", "CN=Authority", "CN=Root"])
         self.assertEqual(report.root["file"], "root.der")
+        self.assertEqual([each["subject"] for each in report.certificates], ["CN=Root", "CN=Authority", "CN=Publisher"])
+        self.assertEqual(report.certificates[2], report.signer)
         self.assertEqual(report.digest["value"], signed_program.image_digest(one, "sha256"))
         self.assertEqual(report.date, {"value": NOW, "source": "now"})
         self.assertEqual([each["line"] for each in report.answers], [PE_LINE, "anchored pool=1 anchor=0"])
@@ -445,13 +449,14 @@ class PrintingTest(unittest.TestCase):
                 self.assertIn(part, text_of)
 
     def test_words(self):
-        for words in ([], ["--json"], ["a", "b"], ["a", "--at"], ["a", "--at", "tomorrow"], ["a", "--at", "2023-06-15", "--at", "2023-06-15"],
+        for words in ([], ["--json"], ["a", "b"], ["a", "--at"], ["a", "--at", "tomorrow"], ["a", "--at", "2023-02-29"], ["a", "--at", "2023-06-15T24:00:00"], ["a", "--at", "2023-06-15", "--at", "2023-06-15"],
                       ["a", "--root"], ["a", "--root", "--json"], ["--rot", "a"], ["a", "--digest", "0"], ["a", "--digest", "xy"]):
             status, out, errors = self.printed(*words)
             self.assertEqual((status, out), (2, ""), words)
             self.assertIn("usage:", errors)
         found = check_program.Words.of(["p", "--root", "a", "b", "--json", "--stamp-root", "c"])
         self.assertEqual((found.program, found.root, found.json, found.stamp_root), ("p", ["a", "b"], True, ["c"]))
+        self.assertTrue(all(map(check_program.is_date, ("2024-02-29", "0000-02-29", "9999-12-31T23:59:59"))))
         found = check_program.Words.of(["--root", "a", "p"])
         self.assertEqual((found.program, found.root), ("p", ["a"]))
 
@@ -494,6 +499,20 @@ class PrintingTest(unittest.TestCase):
             file.chmod(0o755)
             answer = Programs(folder).run("picky_pe", ["3"], "picky_pe")
             self.assertEqual(answer.accepted(), {"signer": "3", "path": "", "excuse": "none"})
+
+    def test_tried(self):
+        """By a stub of `rt`: the line and the status of the program, and none where it didn't end."""
+        with TemporaryDirectory() as folder:
+            file, rt = Path(folder, "file"), Path(folder, "rt")
+            file.write_bytes(b"")
+            with patch.dict(os.environ, {"PATH": folder + os.pathsep + os.environ["PATH"]}):
+                rt.write_text("#!/bin/sh\necho \"refused $*\" >&2\necho 'refused NotMz'\necho 'run=ended status=1 runners=1 proved=no' >&2\nexit 1\n")
+                rt.chmod(0o755)
+                answer = Tried().run("picky_pe", [file, file, "2023-06-15"], "picky_pe")
+                self.assertEqual((answer.refusal(), answer.shown, answer.status), ("NotMz", "picky_pe (by rt try)", 1))
+                rt.write_text("#!/bin/sh\necho 'accepted signer=0 path= excuse=none'\nexit 0\n")
+                with self.assertRaises(NotChecked):
+                    Tried().run("picky_pe", [file], "picky_pe")
 
     def test_other_files(self):
         for octets, what in (
@@ -563,6 +582,37 @@ class DamagedProgramsTest(unittest.TestCase):
                 self.assertTrue(list(report.lines()))
 
 
+def are_built():
+    """Whether the programs are there."""
+    try:
+        return all(map(Programs().path, programs.ACCEPTED))
+    except programs.NotThere:
+        return False
+
+
+@unittest.skipUnless(which("openssl") and are_built(), "openssl isn't there, or the programs aren't built")
+class BuiltTest(unittest.TestCase):
+    """The built programs answer as the reference implementations, so the reports are the same."""
+
+    def assert_same(self, octets, **words):
+        by_judges, by_programs = (checked(octets, programs=one, **words).json() | {"file": ""} for one in (StandIn(), Programs()))
+        self.assertEqual(by_programs, by_judges, words)
+
+    def test_programs(self):
+        for label, program in STORED.items():
+            for now in "2021-06-01T00:00:00", NOW, "2025-01-01T00:00:00", "2031-01-01T00:00:00", "2041-01-01T00:00:00":
+                with self.subTest(label=label, now=now):
+                    self.assert_same(program.octets, now=now)
+
+    def test_others(self):
+        octets = STORED["three"].octets
+        for other in b"", octets[:-8], octets + b"\0", changed(octets, 600), portable_executable(), b"\x7fELF":
+            self.assert_same(other)
+        file = STORED["three"].file()
+        self.assert_same(file.octets, digest=file.file_hash.hex())
+        self.assert_same(file.octets, digest="00" * 32)
+
+
 class QuestionsTest(unittest.TestCase):
     """What is asked is what `verdict_table` asks, and the links to the roots."""
 
@@ -577,7 +627,13 @@ class QuestionsTest(unittest.TestCase):
 
 
 class DocumentedTest(unittest.TestCase):
-    """The manual's statuses and refusals are those of the script."""
+    """What documents say of the script is so."""
+
+    def test_fields(self):
+        """The page for scripts names each field of the object."""
+        page = (Path(__file__).resolve().parents[2] / "docs/SCRIPTING.md").read_text("utf-8")
+        for field in Report("file").json():
+            self.assertIn(f"`{field}`", page)
 
     def test_refusals(self):
         manual = (Path(__file__).resolve().parents[2] / "docs/FORMATS.md").read_text("utf-8")

@@ -129,8 +129,12 @@ class Check:
             sentence, then = (said, hint) if name in reasons.PROGRAM else (f"{sentence} ({said})", hint)
         self.report.refuse(sentence, then, name)
 
+    def decider(self):
+        """The program that decides on the signature."""
+        return "picky_pe" if self.question.digest is None else "picky check"
+
     def ask(self, file, table, date):
-        """What the program for the signature answers of a file."""
+        """What that program answers of a file."""
         if self.question.digest is not None:
             answer = self.programs.run("picky", ["check", file, table, self.question.digest, date, NO_CHAIN], f"picky check {NO_CHAIN}")
         else:
@@ -148,6 +152,7 @@ class Check:
         index = signature.signers_index()
         if index is not None:
             report.signer = signature.certificates[index].shown()
+        report.certificates = [one.shown() for one in signature.certificates]
         report.description = dict(zip(("name", "link"), signature.description()))
         report.stated_time = signature.stated_time()
         report.notes += notes.weaknesses(stated[0] if stated else None, signature.certificates[index] if index is not None else None)
@@ -213,7 +218,7 @@ class Check:
 
     def ask_signature(self, subject, index, path, table, date):
         """The answer on the signature; where it accepts, it is about the signer and the digest that are shown here."""
-        self.question.progress("the proved program checks the signature")
+        self.question.progress(f"{self.decider()} checks the signature")
         file, expected = self.file, index
         if path is not None:
             first = [subject.signature.certificates[index], *path.parents[:-1]]
@@ -244,7 +249,7 @@ class Check:
         """The path to a root; None where there is no certificate or no root to ask about."""
         if index is None or not roots:
             return None
-        self.question.progress("the proved program looks for a path to a root")
+        self.question.progress("picky_anchor looks for a path to a root")
         found = anchors.find(self.programs, self.files, table, date, subject.signature.certificates[index], pool, roots)
         for answer in found.answers:
             self.report.answered(answer, "does a path lead from the signer's certificate to a root?")
@@ -299,7 +304,7 @@ class Check:
         if not self.question.roots.all:
             self.report.refuse("no root is trusted here, so nobody vouches for the signer", "name the file of a root that you trust by --root", "NoAnchoredPath")
             return
-        self.question.progress("the proved program looks for the reason")
+        self.question.progress("picky chain looks for the reason")
         why = explain.why(self.programs, self.files, table, date, subject.signature.certificates[index], pool, roots)
         self.report.path_by_names = [one.subject for one in why.line]
         self.report.refuse(f"the signature is good, but {why.sentence}", why.next, why.name or "NoAnchoredPath")

@@ -11,7 +11,7 @@ CONTENTS = {
         "`osslsigncode verify -catalog CATALOGUE -in FILE` or `signtool verify /c CATALOGUE FILE` checks a file by it"),
     "1.3.6.1.4.1.311.2.1.4": (
         "the signature of a program without the program and without the header of a WIN_CERTIFICATE",
-        "give the signed program itself"),
+        "pass the signed program itself"),
     "1.2.840.113549.1.7.1": (
         "signed data of PKCS #7, which is no signature of a program", "`openssl cms -verify -inform DER` checks it"),
     "1.2.840.113549.1.9.16.1.4": ("a time stamp (RFC 3161)", "`openssl ts -verify -token_in` checks it"),
@@ -34,16 +34,16 @@ def of(octets):
     if octets.startswith(b"MZ"):
         return None, None
     if not octets:
-        return "an empty file", "give the signed program"
+        return "an empty file", "pass the signed program"
     for magic, what, instead in MAGIC:
         if octets.startswith(magic):
             return what, instead
     if b"-----BEGIN " in octets[:4096]:
-        return "a text in PEM", "give the signed program itself; `openssl pkcs7 -print_certs` shows what is in a signature in PEM"
+        return "a text in PEM", "pass the signed program itself; `openssl pkcs7 -print_certs` shows what is in a signature in PEM"
     if any(mark in octets or mark.decode().encode("utf-16-le") in octets for mark in SCRIPT_MARKS):
         return "a signed script", "`Get-AuthenticodeSignature` of PowerShell or `osslsigncode verify` (2.8 or later) checks it"
     if octets[4:8] in (b"\0\2\2\0", b"\0\1\2\0"):
-        return "a signature that was taken out of its program (WIN_CERTIFICATE)", "give the program, or the digest of the program by --digest"
+        return "a signature that was taken out of its program (WIN_CERTIFICATE)", "pass the program, or the digest of the program by --digest"
     if octets.startswith(b"\x30"):
         return of_der(octets)
     return None, None
@@ -54,7 +54,7 @@ def of_der(octets):
     try:
         element, _ = read_first(octets)
         if dotted(element.kids[0].contents) != SIGNED_DATA:
-            return "some structure in DER", "give the signed program"
+            return "some structure in DER", "pass the signed program"
         content = dotted(element.kids[1].kids[0].kids[2].kids[0].contents)
         return CONTENTS.get(content, (f"signed data over content of the type {content}", "`openssl cms -cmsout -print -inform DER` shows what is in it"))
     except (Malformed, Shape, AttributeError, IndexError, ValueError):

@@ -23,6 +23,7 @@ class Report:
     digest: object = None
     signer: object = None
     signer_verified: bool = False
+    certificates: list = field(default_factory=list)
     description: object = None
     stated_time: object = None
     date: object = None

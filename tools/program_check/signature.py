@@ -117,8 +117,8 @@ class Signature:
         place = next(number for number, field in enumerate(signed.kids[3:-1], 3) if field.tag == 0xA0)
         members, front = list(signed.kids[place].kids), []
         for certificate in first:
-            at = next(number for number, member in enumerate(members) if write(member) == certificate.der)
-            front.append(members.pop(at))
+            at = next((number for number, member in enumerate(members) if write(member) == certificate.der), None)
+            front += [] if at is None else [members.pop(at)]
         signed = replaced(signed, place, Constructed(0xA0, (*front, *members)))
         der = write(replaced(self.element, 1, replaced(self.element.kids[1], 0, signed)))
         return self.entry[:8] + der + self.entry[8 + len(der):]

@@ -68,7 +68,7 @@ def check_token(folder, moment):
 
 
 def check_countersignature(folder, moment):
-    openssl("cms", "-verify", "-binary", "-inform", "DER", "-in", folder / "stamp", "-content", folder / "signature", "-out", "/dev/null",
+    openssl("cms", "-verify", "-binary", "-inform", "DER", "-in", folder / "stamp", "-content", folder / "signature", "-out", folder / "content",
             "-CAfile", folder / "roots.pem", "-no-CApath", "-no-CAstore", "-purpose", "timestampsign", "-attime", moment)
 
 
