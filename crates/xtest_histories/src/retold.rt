@@ -118,13 +118,23 @@ fn retold(alloc: Global, count: u8) -> Result<(usize, [u8; 32]), Fail> {
     Ok((accepted.len(), hasher.finalize()))
 }
 
+/// Whether the report of so many steps is that of the certificates that are built here.
+fn compare(alloc: Global, count: u8) -> Result<bool, Fail> {
+    let report = demonstrate(alloc, count)?;
+    let (accepted, sum) = retold(alloc, count)?;
+    Ok(report.accepted == accepted && report.sum == sum)
+}
+
 #[test]
 fn reports_are_those_of_the_builder(rt: HostRuntime) -> Result<(), Fail> {
-    for count in [1, 2, 9, 200] {
-        let report = demonstrate(rt.alloc(), count)?;
-        let (accepted, sum) = retold(rt.alloc(), count)?;
-        assert_eq!(rt; report.accepted, accepted);
-        assert_eq!(rt; report.sum, sum);
+    for count in [1, 2, 9] {
+        assert!(rt; compare(rt.alloc(), count)?, "{count}");
     }
+    Ok(())
+}
+
+#[test]
+fn so_is_that_of_two_hundred_steps(rt: HostRuntime) -> Result<(), Fail> {
+    assert!(rt; compare(rt.alloc(), 200)?);
     Ok(())
 }
