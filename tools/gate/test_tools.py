@@ -42,7 +42,7 @@ from golden import (
 from golden.compare_readers import Comparison, block_line, case_file, cases_of, inputs, spelled
 from golden.xgolden_der import stored_files
 from golden.xgolden_value import stored_files as stored_values
-from interop import certificate_parts, chains, made_check, oid_table, signed_files, signed_images, signed_programs, world_certificates, world_signatures
+from interop import anchored_paths, certificate_parts, chains, made_check, oid_table, signed_files, signed_images, signed_programs, world_certificates, world_signatures
 from interop.certificate_fields import Differs, Fields, openssl_check
 from interop.certificate_making import (
     certificate_around, make_key, requested_certificate, written_name,
@@ -316,6 +316,38 @@ class AnchoredPathsTest(unittest.TestCase):
         self.assertTrue(any(map(compare_anchor.has_parents, answers)))
         unlike, kinds = compare_anchor.compared(None, links, made)
         self.assertEqual((unlike, sum(kinds.values())), ([], 24))
+
+    def test_rules_of_others(self):
+        """Paths that other programs find, by a rule less."""
+        naming = anchor_rows.certificate("Leaf", "Int", ca=False, authority=b"\xaa")
+        renewed = anchor_rows.ca("Root", "Root", owner="Root renewed")
+        below = anchor_rows.certificate("Leaf", "Root", ca=False, by="Root renewed")
+        links = anchor_search.Links(anchor_rows.NOW, DEMO)
+        for checked, pool, anchor, most, found in (
+            (anchor_rows.LEAF, [anchor_rows.INT], anchor_rows.ROOT, 2, (True, True, True)),
+            (anchor_rows.LEAF, [anchor_rows.INT], anchor_rows.ROOT, 1, (False, False, False)),
+            (anchor_rows.LEAF, [anchor_rows.INT], anchor_rows.ROOT_0, 2, (False, False, False)),
+            (naming, [anchor_rows.INT], anchor_rows.ROOT, 2, (False, True, False)),
+            (below, [renewed], anchor_rows.ROOT, 2, (True, True, True)),
+            (below, [renewed], anchor_rows.ROOT_0, 2, (False, False, True)),
+        ):
+            case = anchored_paths.Case("one", checked, pool, [anchor])
+            rules = ((True, True), (False, True), (True, False))
+            said = [anchored_paths.Rules(links, key_identifiers=one, self_issued=other).has_path(case, most) for one, other in rules]
+            self.assertEqual(tuple(said), found)
+
+    def test_results(self):
+        path = anchored_paths.Path.of("anchored pool=2,0 anchor=1")
+        self.assertEqual((path, anchored_paths.Path.of("anchored pool= anchor=0").pool), (([2, 0], 1), []))
+        self.assertIsNone(anchored_paths.Path.of("refused NoAnchoredPath"))
+        case = anchored_paths.Case("one", b"c", [b"a", b"b", b"d"], [b"x", b"y"])
+        self.assertEqual(path.alone(case), ("one", b"c", [b"d", b"a"], [b"y"]))
+        result = anchored_paths.Result
+        for one, other, like in (
+            (result(True, 2), result(True, 2), True), (result(True, 2), result(True, 3), False), (result(True, 2), result(True), True),
+            (result(True, 2), result(False, None, "why"), False), (result(False), result(False, None, "why"), True),
+        ):
+            self.assertEqual(one.is_like(other), like)
 
 
 class IssuingHistoriesTest(unittest.TestCase):
