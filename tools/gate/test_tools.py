@@ -20,7 +20,7 @@ import order_bag
 import ordered_program
 import signed_program
 import verdict_table
-from cases import anchor_rows, basic_rows, basic_world, check_rows, demo_signatures, drawn_anchors, kept_certificates, made_signatures
+from cases import basic_rows, basic_world, check_rows, demo_signatures, kept_certificates, made_signatures
 from cases.certificate_cases import (
     AGREED, AGREEMENT_KEYS, GENERATED, KEY_LABELS, LABELS, REQUESTED, SIGNING_KEYS, WRITTEN,
     Key, Requested,
@@ -31,18 +31,17 @@ from cases.first_path import (
     verdict_line,
 )
 from cases.hostile_inputs import ROWS
-from cases.issuing_rows import DEMO
 from common import folders
 from common.openssl import OpensslError, openssl
 from gate import run_program, unused_calls
 from golden import (
-    compare_anchor, compare_basic, compare_check, compare_readers, reader_stand_in, xgolden_anchor, xgolden_anchor_run, xgolden_basic, xgolden_check, xgolden_histories, xgolden_kept,
+    compare_basic, compare_check, compare_readers, reader_stand_in, xgolden_basic, xgolden_check, xgolden_histories, xgolden_kept,
     xgolden_path, xgolden_pe, xgolden_pe_image,
 )
 from golden.compare_readers import Comparison, block_line, case_file, cases_of, inputs, spelled
 from golden.xgolden_der import stored_files
 from golden.xgolden_value import stored_files as stored_values
-from interop import anchored_paths, certificate_parts, chains, made_check, oid_table, signed_files, signed_images, signed_programs, world_certificates, world_signatures
+from interop import certificate_parts, chains, made_check, oid_table, signed_files, signed_images, signed_programs, world_certificates, world_signatures
 from interop.certificate_fields import Differs, Fields, openssl_check
 from interop.certificate_making import (
     certificate_around, make_key, requested_certificate, written_name,
@@ -51,8 +50,7 @@ from interop.certificate_parts import (
     TEXT_OPTIONS, complaints, made_rows, parts, printed, rows_of, said_subject, source,
     unescaped, unsigned, written_rows,
 )
-from judges import anchor_search, check_judge, der_reader, pe_judge
-from judges.anchor_judge import Search
+from judges import check_judge, der_reader, pe_judge
 from judges.basic_judge import answer
 from judges.cms_reader import both_line, cms_line
 from judges.der_reader import (
@@ -292,62 +290,6 @@ class PathAnswersTest(unittest.TestCase):
     def test_stored_files(self):
         for path, octets in xgolden_path.stored_files().items():
             self.assertEqual((folders.CRATES / "xgolden_path" / path).read_bytes(), octets, path)
-
-
-class AnchoredPathsTest(unittest.TestCase):
-
-    def test_stored_files(self):
-        for path, octets in xgolden_anchor.stored_files().items():
-            self.assertEqual((folders.CRATES / "xgolden_anchor" / path).read_bytes(), octets, path)
-        for path, octets in xgolden_anchor_run.stored_files().items():
-            self.assertEqual((folders.CRATES / "xgolden_anchor_run" / path).read_bytes(), octets, path)
-
-    def test_both_searches(self):
-        links, rows = {}, [*anchor_rows.by_hand(), *anchor_rows.dates(), *anchor_rows.lengths()]
-        for *case, why in rows:
-            checked, pool, anchors, purpose, date = case
-            search = links.setdefault(date, anchor_search.Links(date, DEMO))
-            self.assertEqual(anchor_search.line(search, checked, pool, anchors, purpose), Search(*case, DEMO).line(), why)
-
-    def test_drawn_pools(self):
-        links, made = anchor_search.Links(anchor_rows.NOW, DEMO), list(drawn_anchors.large(24, 5))
-        self.assertEqual(made, list(drawn_anchors.large(24, 5)))
-        answers = [compare_anchor.expected(links, *case) for _, *case in made]
-        self.assertTrue(any(map(compare_anchor.has_parents, answers)))
-        unlike, kinds = compare_anchor.compared(None, links, made)
-        self.assertEqual((unlike, sum(kinds.values())), ([], 24))
-
-    def test_rules_of_others(self):
-        """Paths that other programs find, by a rule less."""
-        naming = anchor_rows.certificate("Leaf", "Int", ca=False, authority=b"\xaa")
-        renewed = anchor_rows.ca("Root", "Root", owner="Root renewed")
-        below = anchor_rows.certificate("Leaf", "Root", ca=False, by="Root renewed")
-        links = anchor_search.Links(anchor_rows.NOW, DEMO)
-        for checked, pool, anchor, most, found in (
-            (anchor_rows.LEAF, [anchor_rows.INT], anchor_rows.ROOT, 2, (True, True, True)),
-            (anchor_rows.LEAF, [anchor_rows.INT], anchor_rows.ROOT, 1, (False, False, False)),
-            (anchor_rows.LEAF, [anchor_rows.INT], anchor_rows.ROOT_0, 2, (False, False, False)),
-            (naming, [anchor_rows.INT], anchor_rows.ROOT, 2, (False, True, False)),
-            (below, [renewed], anchor_rows.ROOT, 2, (True, True, True)),
-            (below, [renewed], anchor_rows.ROOT_0, 2, (False, False, True)),
-        ):
-            case = anchored_paths.Case("one", checked, pool, [anchor])
-            rules = ((True, True), (False, True), (True, False))
-            said = [anchored_paths.Rules(links, key_identifiers=one, self_issued=other).has_path(case, most) for one, other in rules]
-            self.assertEqual(tuple(said), found)
-
-    def test_results(self):
-        path = anchored_paths.Path.of("anchored pool=2,0 anchor=1")
-        self.assertEqual((path, anchored_paths.Path.of("anchored pool= anchor=0").pool), (([2, 0], 1), []))
-        self.assertIsNone(anchored_paths.Path.of("refused NoAnchoredPath"))
-        case = anchored_paths.Case("one", b"c", [b"a", b"b", b"d"], [b"x", b"y"])
-        self.assertEqual(path.alone(case), ("one", b"c", [b"d", b"a"], [b"y"]))
-        result = anchored_paths.Result
-        for one, other, like in (
-            (result(True, 2), result(True, 2), True), (result(True, 2), result(True, 3), False), (result(True, 2), result(True), True),
-            (result(True, 2), result(False, None, "why"), False), (result(False), result(False, None, "why"), True),
-        ):
-            self.assertEqual(one.is_like(other), like)
 
 
 class IssuingHistoriesTest(unittest.TestCase):
