@@ -9,7 +9,7 @@ mod demonstration;
 mod issuing;
 mod laws;
 #[cfg(test)]
-mod retold;
+mod reissued;
 #[cfg(test)]
 mod sealed;
 mod whole_rows;
