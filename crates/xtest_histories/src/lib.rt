@@ -1,6 +1,6 @@
 //! A CA that issues certificates under a demonstration scheme, and a scheme that accepts its
 //! signatures and no others. The expected results are those of RFC 5280 6.1 for signatures that no
-//! key of the CA made.
+//! key of the CA made. Tests of the command `demo`, and of the certificates of a demonstration.
 #![tactic(auto)]
 
 #[cfg(test)]
@@ -9,7 +9,7 @@ mod demonstration;
 mod issuing;
 mod laws;
 #[cfg(test)]
-mod retold;
+mod reissued;
 #[cfg(test)]
 mod sealed;
 mod whole_rows;

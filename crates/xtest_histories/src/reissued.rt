@@ -101,7 +101,7 @@ fn is_accepted(alloc: Global, cert: &Cert, parents: &[Cert]) -> Result<bool, Fai
 
 /// How many of the certificates that are built here are accepted, and the SHA-256 of the octets of
 /// all.
-fn retold(alloc: Global, count: u8) -> Result<(usize, [u8; 32]), Fail> {
+fn reissued(alloc: Global, count: u8) -> Result<(usize, [u8; 32]), Fail> {
     let steps = history_of(alloc, u32::from(count))?;
     let mut certificates = Vec::new(alloc);
     let mut accepted = Vec::new(alloc);
@@ -121,7 +121,7 @@ fn retold(alloc: Global, count: u8) -> Result<(usize, [u8; 32]), Fail> {
 /// Whether the report of so many steps is that of the certificates that are built here.
 fn compare(alloc: Global, count: u8) -> Result<bool, Fail> {
     let report = demonstrate(alloc, count)?;
-    let (accepted, sum) = retold(alloc, count)?;
+    let (accepted, sum) = reissued(alloc, count)?;
     Ok(report.accepted == accepted && report.sum == sum)
 }
 
