@@ -33,7 +33,7 @@ _picky_checked() { # CURRENT PREVIOUS COUNT-OF-WORDS-BEFORE-OPTIONS
 _picky() {
     local current=$2 previous=$3
     if ((COMP_CWORD == 1)); then
-        _picky_words "$current" basic check chain
+        _picky_words "$current" basic check chain demo
     elif [[ ${COMP_WORDS[1]} == check ]]; then
         _picky_checked "$current" "$previous" 5
     else
