@@ -36,8 +36,8 @@ from common import folders
 from common.openssl import OpensslError, openssl
 from gate import run_program, unused_calls
 from golden import (
-    compare_anchor, compare_basic, compare_check, compare_readers, reader_stand_in, xgolden_anchor, xgolden_anchor_run, xgolden_basic, xgolden_check, xgolden_histories, xgolden_kept,
-    xgolden_path, xgolden_pe, xgolden_pe_image,
+    compare_anchor, compare_basic, compare_check, compare_readers, reader_stand_in, xgolden_anchor, xgolden_basic, xgolden_check, xgolden_histories, xgolden_kept,
+    xgolden_path, xgolden_pe, xgolden_pe_image, xgolden_run,
 )
 from golden.compare_readers import Comparison, block_line, case_file, cases_of, inputs, spelled
 from golden.xgolden_der import stored_files
@@ -299,8 +299,8 @@ class AnchoredPathsTest(unittest.TestCase):
     def test_stored_files(self):
         for path, octets in xgolden_anchor.stored_files().items():
             self.assertEqual((folders.CRATES / "xgolden_anchor" / path).read_bytes(), octets, path)
-        for path, octets in xgolden_anchor_run.stored_files().items():
-            self.assertEqual((folders.CRATES / "xgolden_anchor_run" / path).read_bytes(), octets, path)
+        for path, octets in xgolden_run.stored_files().items():
+            self.assertEqual((folders.CRATES / "xgolden_run" / path).read_bytes(), octets, path)
 
     def test_both_searches(self):
         links, rows = {}, [*anchor_rows.by_hand(), *anchor_rows.dates(), *anchor_rows.lengths()]
