@@ -54,7 +54,7 @@ def rows(name):
     """What the row is, its words and its files."""
     for one in run_rows.commands():
         if one.program == name:
-            yield " ".join(one.words[:1] if name == "picky" else one.words[2:3]), one.words, one.files
+            yield one.words[0] if name == "picky" else "a command", one.words, one.files
     if name == "picky":
         yield from signatures()
         yield from certificates()

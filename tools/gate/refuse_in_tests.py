@@ -33,7 +33,7 @@ from common import command
 from gate.refuse_memory import SECONDS, compiled
 
 # How an error that says so is printed by the test program: as the last variant within it, or as its text.
-NO_MEMORY = re.compile(r"(?i)error:.*\b(Memory|OutOfMemory|AllocError|out of memory|memory allocation failed)\b")
+NO_MEMORY = re.compile(r"(?i)error:.*\b(Memory|OutOfMemory|AllocError|AllocFailed|out of memory|memory allocation failed)\b")
 ASSERTION = re.compile(r"test stopped at (?P<place>\S+)")
 
 
