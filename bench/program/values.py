@@ -8,8 +8,9 @@ Usage:
 PROGRAM is the path of the executable `picky`, which runs `chain` on one
 certificate of 200 KB whose bulk is many small values of one kind.  A row says the
 most octets that are allocated at a time, blocks with their heads, as a multiple of
-the file's.  What counts them is a library in C between the program and the
-system's `malloc`; it is compiled by `cc`.
+the file's.  Then `basic` is run on files of 8 to 16 octets that state lengths of
+4 GiB: they have to take no more than a piece of a file does.  What counts is a
+library in C between the program and the system's `malloc`; it is compiled by `cc`.
 """
 
 import subprocess
@@ -23,7 +24,8 @@ from cases.basic_making import certificate, extension
 from cases.first_path import element, identifier, octet_string, sequence, set_of
 from common import command
 
-SIZE, WORST = 200_000, 45
+SIZE, WORST, PIECE = 200_000, 45, 16_384
+STATING = "ffffffff00020200", "1000000000020200 3084ffffffff0000", "1000000000020200 0484ffffffff0000"
 LIBRARY = r"""
 #define _GNU_SOURCE
 #include <dlfcn.h>
@@ -102,24 +104,47 @@ def compiled(folder):
     return library
 
 
+def allocated(program, words, folder, library):
+    """The status of a run, and the most octets that are allocated at a time."""
+    done = subprocess.run([program, *words], cwd=folder, env={"LD_PRELOAD": str(library)}, capture_output=True)
+    return done.returncode, int(done.stderr)
+
+
+def of_values(program, folder, library):
+    """Prints a row for each kind: the greatest multiple."""
+    worst = 0.0
+    print("| bulk of the certificate | octets of one | times the file |\n|---|---:|---:|")
+    for label, size, octets in kinds():
+        (folder / "c").write_bytes(octets)
+        status, most = allocated(program, ("chain", "t", "2025-01-01", "c"), folder, library)
+        if status != 1:
+            raise command.Refusal(f"{label}: status {status}")
+        worst = max(worst, most / len(octets))
+        print(f"| {label} | {size} | {most / len(octets):.1f} |", flush=True)
+    return worst
+
+
+def of_lengths(program, folder, library):
+    """Prints a line for each file that states 4 GiB: the most octets."""
+    most = 0
+    for text in STATING:
+        (folder / "s").write_bytes(bytes.fromhex(text))
+        status, octets = allocated(program, ("basic", "s", "t", "00" * 32), folder, library)
+        print(f"{text}: status {status}, {octets} octets", flush=True)
+        most = max(most, octets)
+    return most
+
+
 def main(words):
     if len(words) != 1:
         return command.usage(__doc__)
-    program, worst = command.executable(words[0]).resolve(), 0.0
-    print("| bulk of the certificate | octets of one | times the file |\n|---|---:|---:|")
+    program = command.executable(words[0]).resolve()
     with tempfile.TemporaryDirectory() as name:
         folder = Path(name)
         library = compiled(folder)
         (folder / "t").write_bytes(b"")
-        for label, size, octets in kinds():
-            (folder / "c").write_bytes(octets)
-            done = subprocess.run([program, "chain", "t", "2025-01-01", "c"], cwd=folder, env={"LD_PRELOAD": str(library)}, capture_output=True)
-            if done.returncode != 1:
-                raise command.Refusal(f"{label}: status {done.returncode}")
-            times = int(done.stderr) / len(octets)
-            worst = max(worst, times)
-            print(f"| {label} | {size} | {times:.1f} |", flush=True)
-    return 1 if worst > WORST else 0
+        worst = of_values(program, folder, library)
+        return 0 if worst <= WORST and of_lengths(program, folder, library) <= PIECE else 1
 
 
 if __name__ == "__main__":
