@@ -766,7 +766,7 @@ class CompareCheckTest(unittest.TestCase):
 
         lines = lambda _, rows: [judge(*one) for one in made]
         with patch("golden.compare_check.cases", cases), patch("golden.compare_basic.printed", lines), patch("builtins.print") as printed:
-            return compare_check.main(["--count", "50", "program"]), printed.call_args.args[0]
+            return compare_check.main(["--count", "50", sys.executable]), printed.call_args.args[0]
 
     def test_the_judge(self):
         self.assertEqual(self.compared(check_judge.answer), (0, "signature files: 50 as the judge says, 0 not"))
