@@ -28,7 +28,7 @@ TABLE = None
 class Command:
     """A program's name, its words, its files in the order in which they are read, status and line.
 
-    `zeros` has for each file the line of the refusal where it is zeros, None for a table.
+    `zeros` has for each file that is also tried at the greatest length the line of the refusal where it is zeros, None for a table.
     """
 
     program: str
@@ -41,31 +41,32 @@ class Command:
 
 # The commands.
 
-def of_signature(words, made_file, line, **zeros):
+def of_signature(words, made_file, line, zeros=None, **others):
     """A command of `picky` over a signature file and its table."""
-    files = {"s": made_file.octets, "t": made_file.table.encode()}
-    return Command("picky", words, files | {name: octets for name, (octets, _) in zeros.items()}, line,
-                   {"s": EMPTY, "t": TABLE} | {name: said for name, (_, said) in zeros.items()})
+    files = {"s": made_file.octets, "t": made_file.table.encode(), **others}
+    return Command("picky", words, files, line, {"s": EMPTY, "t": TABLE} if zeros is None else zeros)
 
 
 def of_chain():
     members = {"leaf": LEAF, "int": INT, "root": ROOT}
     table = bytes.fromhex(table_for(members.values()).word)
-    return Command("picky", ("chain", "t", DAY, *members), {"t": table, **members}, "accepted parents=2", {"t": TABLE} | dict.fromkeys(members, NO_ELEMENT))
+    return Command("picky", ("chain", "t", DAY, *members), {"t": table, **members}, "accepted parents=2", {"t": TABLE, "leaf": NO_ELEMENT, "root": NO_ELEMENT})
 
 
 def of_image(*options, **others):
     """A command of `picky_pe` over a program of zeros."""
     image, table = made()
     files = {"p": image, "t": table.encode(), **others}
-    return Command("picky_pe", ("p", "t", DAY, *options), files, "accepted signer=0 path= excuse=none", {"p": NO_IMAGE, "t": TABLE} | dict.fromkeys(others, NO_LIST))
+    zeros = dict.fromkeys(others, NO_LIST) or {"p": NO_IMAGE, "t": TABLE}
+    return Command("picky_pe", ("p", "t", DAY, *options), files, "accepted signer=0 path= excuse=none", zeros)
 
 
 def of_anchor(anchors, checked, pool, line, status=0):
     members = {f"c{place}": octets for place, octets in enumerate((*anchors, checked, *pool))}
     table = bytes.fromhex(table_for(members.values()).word)
     words = ("t", CODE, DAY, str(len(anchors)), *members)
-    return Command("picky_anchor", words, {"t": table, **members}, line, {"t": TABLE} | dict.fromkeys(members, NO_ELEMENT), status)
+    zeros = {} if status else {"t": TABLE, **dict.fromkeys((words[4], words[-1]), NO_ELEMENT)}
+    return Command("picky_anchor", words, {"t": table, **members}, line, zeros, status)
 
 
 class FirstPath:
@@ -79,8 +80,8 @@ def commands():
     """One for each job of each program."""
     yield of_signature(("basic", "s", "t", HASH), FirstPath, "accepted signer=0 path= excuse=none")
     yield of_signature(("check", "s", "t", HASH, DAY), CHAIN, "accepted signer=0 path=1 excuse=none")
-    yield of_signature(("check", "s", "t", HASH, LATER), EXCUSED, "accepted signer=0 path=1 excuse=bag")
-    yield of_signature(("check", "s", "t", HASH, DAY, "--list", "l", "0"), CHAIN, "accepted signer=0 path=1 excuse=none", l=(list_with(b"R"), NO_LIST))
+    yield of_signature(("check", "s", "t", HASH, LATER), EXCUSED, "accepted signer=0 path=1 excuse=bag", {})
+    yield of_signature(("check", "s", "t", HASH, DAY, "--list", "l", "0"), CHAIN, "accepted signer=0 path=1 excuse=none", {"l": NO_LIST}, l=list_with(b"R"))
     yield of_chain()
     yield of_image()
     yield of_image("--list", "l", "0", l=list_with(b"A"))
@@ -116,8 +117,9 @@ def of_command(one):
         yield ROOM, call, one.files, one.words, SHELF if call < calls else whole
     for room in range(len(one.line) + 2):
         yield room, None, one.files, one.words, whole if room > len(one.line) else (SINK[0], one.line[:room])
-    for name, said in one.zeros.items():
+    for name in one.files:
         yield ROOM, None, {other: octets for other, octets in one.files.items() if other != name}, one.words, SHELF
+    for name, said in one.zeros.items():
         yield ROOM, None, {**one.files, name: GREATEST}, one.words, BAD_TABLE if said is TABLE else (1, said)
         yield ROOM, None, {**one.files, name: TOO_GREAT}, one.words, TOO_LONG
 

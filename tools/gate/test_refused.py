@@ -99,7 +99,7 @@ class CommandsTest(unittest.TestCase):
     def test_files(self):
         names = set()
         for one in run_rows.commands():
-            self.assertEqual(one.files.keys(), one.zeros.keys())
+            self.assertLessEqual(one.zeros.keys(), one.files.keys())
             self.assertLessEqual(one.files.keys(), set(one.words))
             names.add(one.program)
         self.assertEqual(names, {"picky", "picky_pe", "picky_anchor"})
