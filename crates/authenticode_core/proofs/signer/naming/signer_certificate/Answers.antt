@@ -7,7 +7,7 @@ use Rattle.authenticode_core.proofs.signer.naming.signer_certificate.Goals as go
 
 pub returns-in_default : goal.returns-in_default
 returns-in_default c =
-    let bag = c.count.ensures in
+    let bag = c.count-certificates.ensures in
     let is = bag_of (data_elements c.args.signed_data.now) _ bag.0 c.certificate_bag.ensures.members bag.1 in
     (bag.0, is, none_by_key (data_elements c.args.signed_data.now) (signer_elements_at c.args.signer.now) bag.0 c.requires c.in_default.ensures)
 
