@@ -25,7 +25,7 @@ use Rattle.authenticode_core.specs.declared.policy.Policy.{Policy}
 use Rattle.signature_questions.specs.Agreement.{Admits}
 use Rattle.signature_questions.specs.Asked.{IsOfChain, IsOfLink, IsOfLinks, IsQuestion}
 use Rattle.signature_questions.specs.Question.{AsksAbout}
-use Rattle.signature_questions.proofs.Links.{of_chain, of_places}
+use Rattle.signature_questions.proofs.LinkedQuestions.{of_chain, of_places}
 
 module _ (a b : Judge) where
   accepted : (algorithm : SignatureAlgorithm) (info : SubjectPublicKeyInfo) (message signature : List ℕ)

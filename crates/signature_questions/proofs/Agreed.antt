@@ -37,7 +37,7 @@ use Rattle.signature_questions.specs.Agreement.{Admits, Agree}
 use Rattle.signature_questions.specs.Asked.{IsOfLink, IsOfLinks, IsQuestion}
 use Rattle.signature_questions.specs.Question.{Question, AsksAbout}
 use Rattle.signature_questions.proofs.Admitted.{linked_chain, reason, trusted}
-use Rattle.signature_questions.proofs.Links.{of_front, of_next, of_places}
+use Rattle.signature_questions.proofs.LinkedQuestions.{of_front, of_next, of_places}
 
 -- ---- lists of rules that are broken alike
 

@@ -13,7 +13,7 @@ use Rattle.signature_questions.specs.Agreement.{Admits, Agree}
 use Rattle.signature_questions.specs.Asked.{IsOfChain}
 use Rattle.signature_questions.proofs.Admitted.{linked_chain}
 use Rattle.signature_questions.proofs.Agreed.{admitted, first_broken, link_same, same, turned}
-use Rattle.signature_questions.proofs.Links.{chain_front, of_chain}
+use Rattle.signature_questions.proofs.LinkedQuestions.{chain_front, of_chain}
 
 same_parents : (a b : List KeptCertificate) → Some a ≡ Some b → a ≡ b
 same_parents a b e = cc

@@ -1,4 +1,4 @@
-pub mod Links
+pub mod LinkedQuestions
 pub mod Admitted
 pub mod Agreed
 pub mod Chains
