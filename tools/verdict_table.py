@@ -3,8 +3,9 @@
 
     python3 tools/verdict_table.py [--version-1] SIG > TABLE
     python3 tools/verdict_table.py [--version-1] --chain CERT .. > TABLE
+    python3 tools/verdict_table.py [--version-1] --pool CERT .. > TABLE
 
-The two options come in either order.
+The options come in either order.
 
 SIG is a file with a WIN_CERTIFICATE.  Each line names one signature, in the form
 that docs/FORMATS.md gives for verdict tables of version 2:
@@ -14,9 +15,10 @@ that docs/FORMATS.md gives for verdict tables of version 2:
     its issuer, over its TBSCertificate;
   - of the certificates in the token of a timestamp, the same.
 
-Each CERT is a file with one certificate, in DER or in PEM (RFC 7468 5), the one that
-is checked first and its nearest parent next.  Each line names the signature of one by
-the key of the next.
+Each CERT is a file with one certificate, in DER or in PEM (RFC 7468 5).  Of a chain the
+one that is checked comes first and its nearest parent next, and each line names the
+signature of one by the key of the next.  Of a pool, in any order, each line names the
+signature of one by the key of one whose subject is its issuer.
 
 The digest algorithm of a signature is the one that the signature itself names.
 
@@ -37,13 +39,14 @@ version 1 are the lines of signatures that openssl verifies, without a verdict.
 A signature that openssl doesn't verify or can't judge, or whose algorithm has no name
 in a table, has a line on standard error, one wherever it is found.  Nothing
 is said of whether a certificate may be believed: that is for who reads the table.
-Many certificates of one name ask for each by each: a file that asks for more than
-10,000 signatures has no table, and the status is 1.
+Many certificates of one name ask for each by each: where more than 10,000 signatures
+are asked for there is no table, and the status is 1.
 """
 
 import sys
 from base64 import b64decode
 from hashlib import sha256
+from itertools import pairwise
 from pathlib import Path
 from struct import unpack_from
 from tempfile import TemporaryDirectory
@@ -81,7 +84,8 @@ ORDERS = {
 }
 NAMES = {f"rsa-{digest}" for digest in DIGESTS.values()} | {"p256-sha256", "p384-sha384", "p521-sha512", "ed25519"}
 MICROSOFT_COUNTERSIGNATURE = "1.3.6.1.4.1.311.3.3.1"
-OPTIONS = "--version-1", "--chain"
+CHAIN, POOL = "--chain", "--pool"
+OPTIONS = "--version-1", CHAIN, POOL
 MOST_ASKED = 10_000
 ED25519_LENGTH = 64
 # What openssl prints of a signature that it finds false, by `dgst` and by `pkeyutl`.
@@ -362,7 +366,7 @@ def certificate_in(octets):
 
 def asked_of_chain(certificates):
     """The signature of each certificate by the next one (RFC 5280 4.1.1.3)."""
-    for place, (child, parent) in enumerate(zip(certificates, certificates[1:])):
+    for place, (child, parent) in enumerate(pairwise(certificates)):
         algorithm, digest = SIGNATURES.get(child.algorithm, (None, None))
         yield Asked(f"certificate {place}", parent, algorithm, digest, child.tbs, child.signature)
 
@@ -374,21 +378,27 @@ def table(octets, version=1):
 
 def chain_table(files, version=1):
     """The lines of the table for certificates, by their octets, and what openssl doesn't verify."""
-    return table_of(asked_of_chain([certificate_in(octets) for octets in files]), version)
+    return table_of(asked_of_chain(map(certificate_in, files)), version)
 
 
-def table_for(paths, of_chain, version=1):
-    """The same for files by their paths: one signature file, or certificates."""
+def pool_table(files, version=1):
+    """The same for certificates in any order."""
+    return table_of(of_certificates(map(certificate_in, files), "the pool"), version)
+
+
+def table_for(paths, kind, version=1):
+    """The same for files by their paths: one signature file, or certificates of this kind."""
     certificates = []
     for path in paths:
         try:
             octets = Path(path).read_bytes()
-            if not of_chain:
+            if kind is None:
                 return table(octets, version)
             certificates.append(certificate_in(octets))
         except (NotASignatureFile, NotACertificate, TooManyAsked) as refusal:
             raise NotRead(f"{path}: {refusal}") from refusal
-    return table_of(asked_of_chain(certificates), version)
+    asked = asked_of_chain(certificates) if kind == CHAIN else of_certificates(certificates, "the pool")
+    return table_of(asked, version)
 
 
 def table_of(all_asked, version=1):
@@ -425,11 +435,11 @@ def main(arguments):
     options, paths = set(), list(arguments)
     while paths and paths[0] in OPTIONS:
         options.add(paths.pop(0))
-    of_chain, version = "--chain" in options, 1 if "--version-1" in options else 2
-    if not paths or len(paths) > 1 and not of_chain:
+    kinds, version = options & {CHAIN, POOL}, 1 if "--version-1" in options else 2
+    if not paths or len(kinds) > 1 or len(paths) > 1 and not kinds:
         return command.usage(__doc__)
     try:
-        lines, lacking = table_for(paths, of_chain, version)
+        lines, lacking = table_for(paths, next(iter(kinds), None), version)
     except (OSError, NotRead, TooManyAsked) as error:
         print(f"verdict_table.py: {command.sentence(error)}", file=sys.stderr)
         return 1

@@ -3,13 +3,13 @@
 Each row has its answer, found by hand from the steps that `check_judge`
 lists.  Rows with two faults are answered by the first.  Those of the steps before
 are in `basic_steps`, those of excuses in `excuse_rows`, those of trust lists in
-`list_rows`.
+`list_rows`, those that strangers may send in `hostile_files`.
 """
 
 from dataclasses import replace
 from itertools import combinations
 
-from cases import excuse_rows, list_rows
+from cases import excuse_rows, hostile_files, list_rows
 from cases.basic_making import Signed, extension, named
 from cases.basic_steps import BY_KEY, DATA_CONTENT, OTHER_HASH, RIGHT, WITHOUT_NULL, WRONG
 from cases.check_making import (
@@ -410,3 +410,4 @@ def rows():
     yield from map(all_from, range(len(FAULTS) - 1))
     yield from excuse_rows.rows()
     yield from list_rows.rows()
+    yield from hostile_files.rows()

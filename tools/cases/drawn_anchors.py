@@ -2,7 +2,7 @@
 
 A world has some hundred certificates: a few that issue all others, cross certificates, loops, two keys of one name,
 certificates that are over, path lengths, key identifiers. A pool is drawn from one world, and so is its order. The
-signatures are those of the demonstration scheme.
+signatures are those of the demonstration scheme, unless the certificates are made by another maker.
 """
 
 from itertools import permutations
@@ -25,11 +25,11 @@ def length(random, most):
     return random.choice((None,) * 4 + (random.randrange(most + 1),))
 
 
-def authority(random, subject, issuer, longest):
+def authority(random, make, subject, issuer, longest):
     """One certificate of a CA: of the key of its subject, or a second key of this name."""
     owner, by = (random.choice((who,) * 5 + (f"{who} renewed",)) for who in (subject, issuer))
     names_keys = random.random() < 0.2
-    return certificate(
+    return make(
         subject, issuer, dates(random), ca=random.choice((True,) * 9 + (False, None)), length=length(random, longest), owner=owner, by=by,
         own=owner.encode() if names_keys or random.random() < 0.3 else None, authority=by.encode() if names_keys else None,
     )
@@ -72,17 +72,17 @@ KINDS = web, ladder, ring, forest
 class World:
     """Certificates of one kind, what is checked under them, and anchors."""
 
-    def __init__(self, random, kind, size=300):
+    def __init__(self, random, kind, size=300, make=certificate):
         self.kind = kind.__name__
         names, issuer, longest = kind(random)
-        self.members = [authority(random, subject, issuer(subject), longest) for subject in names]
+        self.members = [authority(random, make, subject, issuer(subject), longest) for subject in names]
         while len(self.members) < size:
             subject = random.choice(names)
-            self.members.append(authority(random, subject, issuer(subject), longest))
+            self.members.append(authority(random, make, subject, issuer(subject), longest))
         low = names[:max(1, len(names) // 4)]
-        self.checked = [certificate("Leaf", random.choice(low), when, ca=False) for when in (VALID,) * 9 + (EARLIER,)]
+        self.checked = [make("Leaf", random.choice(low), when, ca=False) for when in (VALID,) * 9 + (EARLIER,)]
         self.anchors = [
-            certificate(subject, subject, dates(random), ca=True, length=length(random, longest), owner=random.choice((subject,) * 4 + (f"{subject} renewed",)))
+            make(subject, subject, dates(random), ca=True, length=length(random, longest), owner=random.choice((subject,) * 4 + (f"{subject} renewed",)))
             for subject in ROOTS * 12
         ] + self.members[:4]
 

@@ -5,10 +5,11 @@ Usage:
 
     python3 tools/gate/damaged_files.py [--seed N] [--count N] [--openssl] TOOL
 
-TOOL is `verdict_table`, `order_bag` or `signed_program`.  The script is imported
-and its `main` is called on N files (20,000 unless said), one after another.  Each
+TOOL is `verdict_table`, `order_bag`, `signed_program` or `check_program`.  The script is
+imported and its `main` is called on N files (20,000 unless said), one after another.  Each
 call has to end with status 0, or with status 1 and one line on standard error that
-names the script and the file.  Any exception is a difference, which is printed with
+names the script and the file; one of `check_program` with a verdict of one line, by the
+reference implementations in place of the programs.  Any exception is a difference, which is printed with
 the octets of the file, and makes the exit status 1.
 
 The files are signatures of the repository and of openssl and osslsigncode, with their
@@ -29,7 +30,7 @@ import sys
 import traceback
 from base64 import encodebytes
 from collections import Counter
-from contextlib import redirect_stderr, redirect_stdout
+from contextlib import contextmanager, redirect_stderr, redirect_stdout
 from hashlib import sha256
 from io import StringIO
 from pathlib import Path
@@ -40,15 +41,18 @@ from unittest.mock import patch
 
 sys.path.insert(0, str(Path(__file__).resolve().parents[1]))
 
+import check_program
 import order_bag
 import signed_program
 import verdict_table
 from cases.basic_world import signature_file
 from common import command, folders
 from common.openssl import OpensslError
+from gate.programs_stand_in import StandIn
 from golden.compare_basic import at, exchanged, mutation, places
 from interop import chains, signed_programs, world_signatures
 from judges.der_reader import Constructed, Malformed, NotWritable, Primitive, read_first, write
+from program_check import stamps
 
 TAGS = bytes.fromhex("01 02 03 04 05 06 0c 13 16 17 18 1e 24 30 31 80 81 82 86 a0 a1 a2 a3")
 NO_TAGS = bytes.fromhex("00 1f 3f ff")
@@ -188,25 +192,30 @@ def words_of(chance, tool, file, folder, whole):
         words = [file, whole]
         chance.shuffle(words)
         return [*version, "--chain", *words, *chance.choice(([], [file]))]
+    if tool is check_program:
+        return [file, "--root", whole, "--at", "2023-06-15"]
     out = str(Path(folder, "out"))
     digest = chance.choice(([], [], ["sha256"], ["sha384"])) if tool is signed_program else []
     return [file, out, *digest]
 
 
 def called(tool, words):
-    """The status of a call and what it wrote to standard error, or the traceback."""
-    with redirect_stdout(StringIO()), redirect_stderr(StringIO()) as errors:
+    """The status of a call and what it wrote to standard error, or the traceback; of `check_program` its verdict where it has one."""
+    with redirect_stdout(StringIO()) as out, redirect_stderr(StringIO()) as errors:
         try:
             status = tool.main(words)
         except SystemExit as end:
             status = end.code
         except Exception:
             return None, traceback.format_exc()
-    return status, errors.getvalue()
+    verdicts = re.findall(r"^(?:accepted|refused): .*\n", out.getvalue(), re.MULTILINE) if tool is check_program else []
+    return status, verdicts[0] if len(verdicts) == 1 else errors.getvalue()
 
 
 def is_well(tool, file, status, said):
     """Whether a call ended as it has to."""
+    if tool is check_program and status in (0, 1):
+        return said.startswith("refused: " if status else "accepted: ")
     if status == 0:
         return True
     return status == 1 and said.startswith(f"{tool.__name__}.py: {file}: ") and said.count("\n") == 1
@@ -225,10 +234,11 @@ def in_place_of_openssl(*words, given=b""):
 
 def files(chance, tool, count):
     """So many files, each with another that is whole where certificates are asked for."""
-    both = {verdict_table: [*signatures(), *certificates()], order_bag: list(signatures()), signed_program: list(programs())}[tool]
+    both = {verdict_table: [*signatures(), *certificates()], order_bag: list(signatures()), signed_program: list(programs()), check_program: list(programs())}[tool]
     for _ in range(count):
         kind, base = chance.choice(both)
-        yield file_of(chance, kind, base), base if kind in ("der", "pem") else None
+        other = signed_programs.root() if tool is check_program else base if kind in ("der", "pem") else None
+        yield file_of(chance, kind, base), other
 
 
 def check(tool, seed, count):
@@ -249,9 +259,27 @@ def check(tool, seed, count):
     return statuses, wrong, longest
 
 
+def verifies_some(*words, given=b""):
+    """In place of openssl, of time stamps: finds about every other one good."""
+    if sha256(Path(words[words.index("-in") + 1]).read_bytes()).digest()[0] % 2:
+        raise OpensslError("not verified", out="Verification: FAILED\n")
+    return b""
+
+
+@contextmanager
+def in_place(with_openssl):
+    """The functions in place of openssl and of the programs, unless openssl is to be started."""
+    with patch.object(check_program, "Programs", lambda folder: StandIn()):
+        if with_openssl:
+            yield
+        else:
+            with patch.object(verdict_table, "openssl", in_place_of_openssl), patch.object(stamps, "openssl", verifies_some):
+                yield
+
+
 def kind_of(said):
-    """A sentence without its numbers; of a traceback its last line."""
-    return re.sub(r"[0-9]+(\.[0-9]+)*", "N", said.strip().rpartition("\n")[2])
+    """A sentence without its numbers and what is quoted in it; of a traceback its last line."""
+    return re.sub(r"[0-9]+(\.[0-9]+)*", "N", re.sub(r"'.*'", "'..'", said.strip().rpartition("\n")[2]))
 
 
 def main(arguments):
@@ -259,11 +287,10 @@ def main(arguments):
     parser.add_argument("--seed", type=int, default=1)
     parser.add_argument("--count", type=int, default=20_000)
     parser.add_argument("--openssl", action="store_true", help="start openssl")
-    tools = {tool.__name__: tool for tool in (verdict_table, order_bag, signed_program)}
+    tools = {tool.__name__: tool for tool in (verdict_table, order_bag, signed_program, check_program)}
     parser.add_argument("tool", choices=tools)
     words = parser.parse_args(arguments)
-    stub = verdict_table.openssl if words.openssl else in_place_of_openssl
-    with patch.object(verdict_table, "openssl", stub):
+    with in_place(words.openssl):
         statuses, wrong, longest = check(tools[words.tool], words.seed, words.count)
     for octets, called_with, status, said in wrong[:SHOWN]:
         print(f"{' '.join(called_with)}: status {status}: {said.strip()}\n  of {octets.hex()}")

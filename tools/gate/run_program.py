@@ -21,7 +21,8 @@ refusal (`basic_steps.py`); the answers from the tables of statuses in
 docs/MANUAL.md and of refusals in docs/FORMATS.md.  The certificates of
 `chain` are those of `chains.py`, which openssl made, and the answers to them
 are those of the reader in `chain_reader.py`, and those of
-`issuing_chains.py`, with answers by hand.  The files of `check` are those of
+`issuing_chains.py`, with answers by hand.  The lines of `demo` are those of
+`demo_maker.py`.  The files of `check` are those of
 `check_rows.py` and `list_rows.py`, which have their answers, and programs that
 osslsigncode signed (`signed_programs.py`), whose answers are those of `check_judge.py`.
 Exit status 1 says that a row differs.
@@ -44,7 +45,7 @@ from cases import issuing_chains as issued
 from cases.first_path import FILE_HASH, signature_file, verdict_line
 from common import command
 from interop import chains, signed_programs, world_signatures
-from judges import check_judge
+from judges import check_judge, demo_maker
 
 SECONDS = 60
 LONGEST_FILE = 16_777_216
@@ -678,6 +679,32 @@ ISSUED_ROWS = [
     of_issued("the leaf expired", issued.MY_CHAIN, "2021-01-02", 1, EXPIRED),
 ]
 
+
+
+def demonstrated(count, output="read"):
+    """A row of a demonstration of so many steps. No file is there."""
+    status, line = (0, f"{demo_maker.line(count)}\n") if output == "read" else (5, "")
+    return Row(f"a demonstration of {count} steps, {output}", ("demo", str(count)), status, line, {}, output=output)
+
+
+DEMO_ROWS = [
+    *map(demonstrated, (1, 2, 3, 9, 10, 99, 100, 199, 200, 200)),
+    *(demonstrated(2, output) for output in ("full", "closed", "unread", "reading")),
+    Row("a demonstration without standard input", ("demo", "1"), 0, f"{demo_maker.line(1)}\n", {}, given=None),
+    *(Row(f"a demonstration of {word!r} steps", ("demo", word), 2, files={}) for word in (
+        "0", "00", "01", "001", "0200", "201", "202", "256", "257", "1000", "18446744073709551617", "-1", "+1", " 1", "1 ", "1\n", "1.0", "0x1", "1e2", "1_0",
+        "a", "", "\u0661", b"1\xff")),
+    *(Row(f"a demonstration: {why}", words, 2, files={}) for why, words in (
+        ("the command alone", ("demo",)),
+        ("two numbers", ("demo", "1", "1")),
+        ("an empty word too many", ("demo", "1", "")),
+        ("the command in another case", ("Demo", "1")),
+        ("the command behind", ("1", "demo")),
+        ("an option", ("demo", "--no-chain")),
+    )),
+    Row("a demonstration in the place of a file", ("basic", "demo", "1", HASH), 0, ACCEPTED, {"demo": SIGNATURE, "1": TABLE}),
+]
+
 ROWS = [
     *ACCEPTED_ROWS,
     *REFUSED_ROWS,
@@ -692,6 +719,7 @@ ROWS = [
     *CHECK_ROWS,
     *LIST_ROWS,
     *ISSUED_ROWS,
+    *DEMO_ROWS,
 ]
 
 

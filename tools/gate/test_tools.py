@@ -20,7 +20,7 @@ import order_bag
 import ordered_program
 import signed_program
 import verdict_table
-from cases import anchor_rows, basic_rows, basic_world, check_rows, demo_signatures, drawn_anchors, kept_certificates, made_signatures
+from cases import basic_rows, basic_world, check_rows, demo_signatures, kept_certificates, made_signatures
 from cases.certificate_cases import (
     AGREED, AGREEMENT_KEYS, GENERATED, KEY_LABELS, LABELS, REQUESTED, SIGNING_KEYS, WRITTEN,
     Key, Requested,
@@ -31,12 +31,11 @@ from cases.first_path import (
     verdict_line,
 )
 from cases.hostile_inputs import ROWS
-from cases.issuing_rows import DEMO
 from common import folders
 from common.openssl import OpensslError, openssl
 from gate import run_program, unused_calls
 from golden import (
-    compare_anchor, compare_basic, compare_check, compare_readers, reader_stand_in, xgolden_anchor, xgolden_anchor_run, xgolden_basic, xgolden_check, xgolden_histories, xgolden_kept,
+    compare_basic, compare_check, compare_readers, reader_stand_in, xgolden_basic, xgolden_check, xgolden_histories, xgolden_kept,
     xgolden_path, xgolden_pe, xgolden_pe_image,
 )
 from golden.compare_readers import Comparison, block_line, case_file, cases_of, inputs, spelled
@@ -51,8 +50,7 @@ from interop.certificate_parts import (
     TEXT_OPTIONS, complaints, made_rows, parts, printed, rows_of, said_subject, source,
     unescaped, unsigned, written_rows,
 )
-from judges import anchor_search, check_judge, der_reader, pe_judge
-from judges.anchor_judge import Search
+from judges import check_judge, der_reader, pe_judge
 from judges.basic_judge import answer
 from judges.cms_reader import both_line, cms_line
 from judges.der_reader import (
@@ -292,30 +290,6 @@ class PathAnswersTest(unittest.TestCase):
     def test_stored_files(self):
         for path, octets in xgolden_path.stored_files().items():
             self.assertEqual((folders.CRATES / "xgolden_path" / path).read_bytes(), octets, path)
-
-
-class AnchoredPathsTest(unittest.TestCase):
-
-    def test_stored_files(self):
-        for path, octets in xgolden_anchor.stored_files().items():
-            self.assertEqual((folders.CRATES / "xgolden_anchor" / path).read_bytes(), octets, path)
-        for path, octets in xgolden_anchor_run.stored_files().items():
-            self.assertEqual((folders.CRATES / "xgolden_anchor_run" / path).read_bytes(), octets, path)
-
-    def test_both_searches(self):
-        links, rows = {}, [*anchor_rows.by_hand(), *anchor_rows.dates(), *anchor_rows.lengths()]
-        for *case, why in rows:
-            checked, pool, anchors, purpose, date = case
-            search = links.setdefault(date, anchor_search.Links(date, DEMO))
-            self.assertEqual(anchor_search.line(search, checked, pool, anchors, purpose), Search(*case, DEMO).line(), why)
-
-    def test_drawn_pools(self):
-        links, made = anchor_search.Links(anchor_rows.NOW, DEMO), list(drawn_anchors.large(24, 5))
-        self.assertEqual(made, list(drawn_anchors.large(24, 5)))
-        answers = [compare_anchor.expected(links, *case) for _, *case in made]
-        self.assertTrue(any(map(compare_anchor.has_parents, answers)))
-        unlike, kinds = compare_anchor.compared(None, links, made)
-        self.assertEqual((unlike, sum(kinds.values())), ([], 24))
 
 
 class IssuingHistoriesTest(unittest.TestCase):
@@ -766,7 +740,7 @@ class CompareCheckTest(unittest.TestCase):
 
         lines = lambda _, rows: [judge(*one) for one in made]
         with patch("golden.compare_check.cases", cases), patch("golden.compare_basic.printed", lines), patch("builtins.print") as printed:
-            return compare_check.main(["--count", "50", "program"]), printed.call_args.args[0]
+            return compare_check.main(["--count", "50", sys.executable]), printed.call_args.args[0]
 
     def test_the_judge(self):
         self.assertEqual(self.compared(check_judge.answer), (0, "signature files: 50 as the judge says, 0 not"))

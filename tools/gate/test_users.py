@@ -21,7 +21,7 @@ import signed_program
 import verdict_table
 from cases import basic_world
 from common.openssl import OpensslError, openssl
-from interop import signed_programs, world_signatures
+from interop import chains, signed_programs, world_signatures
 from interop.signature_making import portable_executable
 from judges.basic_judge import answer
 from judges.der_reader import Constructed, Primitive, read_exact, write
@@ -269,14 +269,24 @@ class UsersToolsTest(unittest.TestCase):
         with TemporaryDirectory() as folder:
             file = Path(folder, "file")
             file.write_bytes(der)
-            for options, lines in (["--chain"], 2), (["--version-1", "--chain"], 1), (["--chain", "--version-1"], 1):
+            for options, lines in (["--chain"], 2), (["--pool"], 2), (["--version-1", "--chain"], 1), (["--chain", "--version-1"], 1), (["--pool", "--version-1"], 1):
                 with patch("sys.stdout", StringIO()) as out:
                     self.assertEqual(verdict_table.main([*options, str(file), str(file)]), 0)
                 rows = out.getvalue().splitlines()
                 self.assertEqual((len(rows), rows[-1].split()[-4]), (lines, "rsa-sha256"), options)
                 self.assertEqual(self.said(verdict_table, *options)[0], 2)
-        for words in [], ["--version-1"], ["a", "b"], ["--version-1", "a", "b"]:
+        for words in [], ["--version-1"], ["a", "b"], ["--version-1", "a", "b"], ["--chain", "--pool", "a"]:
             self.assertEqual(self.said(verdict_table, *words)[0], 2)
+
+    def test_a_pool(self):
+        """The lines of a chain, whatever the order of the certificates, and that of the root over itself."""
+        labels = "by second", "second", "first", "root"
+        certificates = [chains.stored()[label] for label in labels]
+        chain, pool = verdict_table.chain_table(certificates, 2)[0], verdict_table.pool_table(certificates, 2)
+        self.assertEqual(pool, verdict_table.pool_table(certificates * 2, 2))
+        self.assertEqual(set(verdict_table.pool_table(certificates[::-1], 2)[0]), set(pool[0]))
+        own, = set(pool[0]) - set(chain)
+        self.assertEqual((set(chain) - set(pool[0]), pool[1], own.split()[:2]), (set(), [], ["accept", "rsa-sha256"]))
 
     def test_a_signature_in_pem(self):
         signature = signed_programs.stored()["three"].file().octets

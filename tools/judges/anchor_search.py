@@ -47,12 +47,17 @@ class Links:
         one, other = self.member(parent), self.member(child)
         if one.ca != "true" or not self.is_valid(parent) or one.subject != other.issuer:
             return False
-        if other.named is not None and other.named != one.own:
+        if not self.has_named_key(one, other):
             return False
         algorithm = CALLED.get(other.algorithm.kids[0])
         if algorithm is None:
             return False
         return self.scheme.verdict(algorithm, one.key, other.signed, other.signature) == "accepted"
+
+    @staticmethod
+    def has_named_key(one, other):
+        """Whether one has the key identifier that the other names, if it names one."""
+        return other.named is None or other.named == one.own
 
     def allows(self, parent, between):
         length = self.member(parent).length

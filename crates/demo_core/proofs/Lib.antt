@@ -18,3 +18,5 @@ mod StepHistories
 mod Counting
 mod Ancestors
 mod Whole
+mod OneReport
+mod Running

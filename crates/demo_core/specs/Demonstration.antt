@@ -1,6 +1,7 @@
 -- What a demonstration reports.
-use Rattle.std.specs.Prelude.{◌≡◌, ℕ, List, ◌++◌, Some, codes, decimal}
+use Rattle.std.specs.Prelude.{◌≡◌, ℕ, List, [], ◌∷◌, ◌++◌, Some, codes, decimal}
 use Rattle.hex.specs.Hex.{encode_lower}
+use Rattle.sig_core.specs.VerdictTable.{newline}
 use Rattle.asn1_types.specs.declared.generalized_time.GeneralizedTime.{GeneralizedTime}
 use Rattle.x509_core.specs.History.{IsValidAt}
 use Rattle.x509_core.specs.KeptCertificate.{KeptCertificate}
@@ -37,3 +38,7 @@ sum_text sum = codes " sum=" ++ encode_lower sum
 -- the text of a report
 abbrev pub report_text : Demonstration → List ℕ
 report_text d = counts_text d ++ sum_text d.sum
+
+-- the line of a report, as it is written
+abbrev pub report_line : Demonstration → List ℕ
+report_line d = report_text d ++ newline ∷ []

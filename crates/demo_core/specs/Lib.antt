@@ -9,3 +9,5 @@ pub mod Builders
 pub mod Issuing
 pub mod Acceptance
 pub mod Demonstration
+pub mod Words
+pub mod Run

@@ -42,6 +42,8 @@ ghost use Rattle.x509_issuing.specs.declared.builder.CertificateBuilder.{Certifi
 ghost use Rattle.x509_issuing.specs.declared.builder.IssuerInfos.{IssuerInfos};
 ghost use Rattle.demo_core.specs.Builders.{IsStepBuilder};
 ghost use Rattle.demo_core.specs.Certificates.{signature_under, signer_of, step_certificate, step_elements, step_key, step_key_id, step_rsa_key, step_tbs};
+ghost use Rattle.demo_core.specs.Demonstration.{IsDemonstration};
+ghost use Rattle.demo_core.specs.declared.demonstration.Demonstration.{Demonstration};
 ghost use Rattle.demo_core.specs.declared.history.Step.{Step};
 ghost use Rattle.demo_core.specs.History.{IsStepAt, demo_step};
 ghost use Rattle.demo_core.specs.Secrets.{AreStepKeys, demo_pair, signs_by_demo, step_secret};
@@ -128,4 +130,10 @@ pub fn step_certificates_are_determined()
         → RefusesBySteps cert_errors.Memory
         (build_steps (arithmetic demo_verdict signs_by_demo demo_pair) b (index + 1)) e
         → e ≡ cert_errors.Memory }
+{}
+
+/// Demonstrations of as many steps report the same.
+pub fn demonstrations_are_determined()
+    ensures { (count : ℕ) (a b : Demonstration) → IsDemonstration count a → IsDemonstration count b
+        → a ≡ b }
 {}

@@ -1,13 +1,15 @@
 //! The program: its command line, files by path, standard output.
 #![tactic(auto)]
 
-use picky_check::{DirShelf, OutSink, run, status_without_words};
+mod program;
+
+use picky_check::{DirShelf, OutSink, status_without_words};
 use std::process::ExitCode;
 use std::{env, io};
 
 fn main(rt: HostRuntime) -> ExitCode {
     let status = match words(&rt) {
-        Ok(words) => run(
+        Ok(words) => program::run(
             rt.alloc(),
             &words,
             &mut DirShelf::new(&rt),

@@ -1,1 +1,3 @@
+-- Promises, which public contracts cite: all.
 pub mod WholeRow
+pub mod Listed

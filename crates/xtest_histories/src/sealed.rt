@@ -9,18 +9,22 @@ use std::test::Fail;
 use x509_core::{Cert, CertCause, CertError};
 
 /// Appends the signature of a certificate by its parent's key.
-fn add(alloc: Global, rows: &mut WholeRows, parent: &Cert, child: &Cert) -> Result<(), AllocError> {
+fn add(rows: &mut WholeRows, parent: &Cert, child: &Cert) -> Result<(), AllocError> {
     let (parent, child) = (parent.view(), child.view());
-    let signature = (parent.key(), child.tbs(), child.signature());
-    rows.push(alloc, SigAlg::RsaSha256, signature)
+    rows.push(
+        SigAlg::RsaSha256,
+        parent.key(),
+        child.tbs(),
+        child.signature(),
+    )
 }
 
 /// The signatures of the CA, on its root, its intermediate and a leaf.
 fn rows_of(alloc: Global, ca: &Authority, leaf: &Cert) -> Result<WholeRows, AllocError> {
     let mut rows = WholeRows::new(alloc);
-    add(alloc, &mut rows, &ca.root, &ca.root)?;
-    add(alloc, &mut rows, &ca.root, &ca.intermediate)?;
-    add(alloc, &mut rows, &ca.intermediate, leaf)?;
+    add(&mut rows, &ca.root, &ca.root)?;
+    add(&mut rows, &ca.root, &ca.intermediate)?;
+    add(&mut rows, &ca.intermediate, leaf)?;
     Ok(rows)
 }
 

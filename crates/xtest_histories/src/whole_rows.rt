@@ -1,9 +1,8 @@
 //! A signature scheme that accepts the signatures on a list, each kept whole.
 
-ghost use Rattle.std.specs.Prelude.{◌≡◌, if◌then◌else◌};
+ghost use Rattle.std.specs.Prelude.{◌≡◌, [], ◌∷◌, ◌++◌, OnErr, OnOk};
 ghost use Rattle.std.specs.List.{list_any};
-ghost use Rattle.sig_core.specs.declared.scheme.Verdict.TheVariants.{Accept, Reject};
-ghost use Rattle.xtest_histories.specs.WholeRow.{is_row_of};
+ghost use Rattle.xtest_histories.specs.WholeRow.{is_row_of, row_of, verdict_of};
 
 use der_core::Octets;
 use sig_core::{Scheme, SchemeError, SchemeKind, SigAlg, Verdict};
@@ -11,18 +10,17 @@ use std::alloc::{AllocError, Global};
 
 /// A signature: the algorithm, the key bytes, the message and the signature itself.
 #[derive(Drop)]
-pub(crate) struct WholeRow {
-    alg: SigAlg,
-    key: Octets,
-    msg: Octets,
-    sig: Octets,
+pub struct WholeRow {
+    pub alg: SigAlg,
+    pub key: Octets,
+    pub msg: Octets,
+    pub sig: Octets,
 }
 
 impl WholeRow {
     /// Whether the row is this signature.
     fn is_of(&self, alg: SigAlg, key: &[u8], msg: &[u8], sig: &[u8]) -> bool
-        ensures { result ≡ is_row_of alg key.now msg.now sig.now
-            self.now.alg self.now.key self.now.msg self.now.sig }
+        ensures { result ≡ is_row_of alg key.now msg.now sig.now self.now }
     {
         alg.name() == self.alg.name()
             && key == self.key.as_slice()
@@ -33,25 +31,35 @@ impl WholeRow {
 
 /// A scheme that accepts the signatures of its rows and rejects all others. It doesn't sign.
 #[derive(Drop)]
-pub(crate) struct WholeRows {
+pub struct WholeRows {
+    alloc: Global,
     rows: Vec<WholeRow>,
 }
 
 impl WholeRows {
     /// A scheme without rows, which rejects everything.
-    pub(crate) fn new(alloc: Global) -> WholeRows {
+    pub fn new(alloc: Global) -> WholeRows
+        ensures { result.rows.items ≡ [] }
+    {
         WholeRows {
+            alloc,
             rows: Vec::new(alloc),
         }
     }
 
     /// Appends a row.
-    pub(crate) fn push(
+    pub fn push(
         &mut self,
-        alloc: Global,
         alg: SigAlg,
-        (key, msg, sig): (&[u8], &[u8], &[u8]),
-    ) -> Result<(), AllocError> {
+        key: &[u8],
+        msg: &[u8],
+        sig: &[u8],
+    ) -> Result<(), AllocError>
+        ensures ok { OnOk result (self.new.rows.items ≡ self.old.rows.items
+            ++ row_of alg key.now msg.now sig.now ∷ []) }
+        ensures err { OnErr result (self.new.rows.items ≡ self.old.rows.items) }
+    {
+        let alloc = self.alloc;
         let row = WholeRow {
             alg,
             key: Octets::from_slice(alloc, key)?,
@@ -63,9 +71,7 @@ impl WholeRows {
 
     /// Whether some row is this signature.
     fn has(&self, alg: SigAlg, key: &[u8], msg: &[u8], sig: &[u8]) -> bool
-        ensures { result ≡ list_any
-            (λ row. is_row_of alg key.now msg.now sig.now row.alg row.key row.msg row.sig)
-            self.now.rows.items }
+        ensures { result ≡ list_any (is_row_of alg key.now msg.now sig.now) self.now.rows.items }
     {
         self.rows.iter().any(|row| row.is_of(alg, key, msg, sig))
     }
@@ -75,10 +81,7 @@ impl Scheme for WholeRows {
     ghost use Rattle.std.specs.Prelude.{false, None};
     ghost use Rattle.std.proofs.lemmas.Option.{none-some};
 
-    ghost judge = { λ scheme alg key msg sig.
-        if list_any (λ row. is_row_of alg key msg sig row.alg row.key row.msg row.sig)
-        scheme.rows.items
-        then Accept else Reject };
+    ghost judge = { λ scheme. verdict_of scheme.rows.items };
 
     ghost signs = { λ _ _ _ _. false };
 

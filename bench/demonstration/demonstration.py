@@ -1,0 +1,89 @@
+#!/usr/bin/env python3
+"""How long `picky demo N` takes, beside OpenSSL building and verifying as many certificates.
+
+Usage:
+
+    python3 bench/demonstration/demonstration.py [--rounds N] [--steps N] PROGRAM
+
+PROGRAM is the executable of the crate `picky`.  The script builds the other
+program from `demonstration.c`, with Debian's package libssl-dev, which gets the
+steps as `demo_lines.py` draws them.  It builds the same certificates, octet by
+octet, writes and reads each, and verifies it over all its ancestors, but for
+the signature: neither program does arithmetic.  Both have to print the line of
+`demo_lines.py`.
+
+The processor time and the greatest resident memory of whole runs are taken, in
+turn; a figure is the median of the rounds.  A markdown table is printed, and
+the status is 1 if our time is more than OpenSSL's, else 0.  This is no part of
+the gate: the figures depend on the machine.
+"""
+
+import argparse
+import os
+import subprocess
+import sys
+import tempfile
+from datetime import datetime, timezone
+from pathlib import Path
+from statistics import median
+
+sys.path.insert(0, str(Path(__file__).resolve().parents[2] / "tools"))
+
+from common import command
+from golden import demo_lines
+from judges import demo_maker
+
+HERE = Path(__file__).resolve().parent
+MOMENT = int(datetime(demo_maker.CHECKED_YEAR, 1, 1, tzinfo=timezone.utc).timestamp())
+
+
+def built(folder):
+    """The path of OpenSSL's program."""
+    path = folder / "openssl"
+    subprocess.run(["cc", "-O2", "-o", path, HERE / "demonstration.c", "-lcrypto"], check=True)
+    return path
+
+
+def measured(words, wanted):
+    """Milliseconds that the processor worked, and KiB of memory."""
+    with tempfile.TemporaryFile() as output:
+        pid = os.posix_spawnp(words[0], words, os.environ, file_actions=[(os.POSIX_SPAWN_DUP2, output.fileno(), 1)])
+        _, status, usage = os.wait4(pid, 0)
+        output.seek(0)
+        line = output.read().decode("ascii")
+    if status or line != wanted:
+        raise command.Refusal(f"{words[0]} ended with {os.waitstatus_to_exitcode(status)} and printed {line!r}")
+    return (usage.ru_utime + usage.ru_stime) * 1000, usage.ru_maxrss
+
+
+def medians(programs, wanted, rounds):
+    """By its name the figures of each program."""
+    runs = [{name: measured(words, wanted) for name, words in programs.items()} for _ in range(rounds + 1)][1:]
+    return {name: [median(one[name][which] for one in runs) for which in (0, 1)] for name in programs}
+
+
+def main(words):
+    parser = argparse.ArgumentParser(description="Time of a demonstration of issuing.")
+    parser.add_argument("--rounds", type=int, default=21)
+    parser.add_argument("--steps", type=int, default=demo_maker.MOST_STEPS)
+    parser.add_argument("program", type=command.executable, help="the executable of picky")
+    options = parser.parse_args(words)
+    steps = demo_maker.history(options.steps)
+    with tempfile.TemporaryDirectory() as name:
+        folder = Path(name)
+        file = folder / "steps"
+        file.write_text("".join(f"{demo_lines.step_line(steps, k)}\n" for k in range(options.steps)))
+        programs = {
+            "ours": [str(options.program.resolve()), "demo", str(options.steps)],
+            "openssl": [str(built(folder)), str(file), str(MOMENT)],
+        }
+        figures = medians(programs, f"{demo_maker.line(options.steps)}\n", options.rounds)
+    print(f"{options.steps} steps, {options.rounds} rounds, load {os.getloadavg()[0]:.0f}\n")
+    print("| | processor ms | memory KiB |\n|---|---:|---:|")
+    for name, (time, memory) in figures.items():
+        print(f"| {name} | {time:.1f} | {memory:,} |")
+    return 1 if figures["ours"][0] > figures["openssl"][0] else 0
+
+
+if __name__ == "__main__":
+    command.run(main, __doc__)

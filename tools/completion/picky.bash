@@ -1,0 +1,78 @@
+# Completion of the programs and of check_program.py for bash:
+#
+#     source tools/completion/picky.bash
+
+_picky_files() {
+    mapfile -t COMPREPLY < <(compgen -f -- "$2")
+    compopt -o filenames
+}
+
+_picky_words() { # CURRENT WORD..
+    local current=$1
+    shift
+    mapfile -t COMPREPLY < <(compgen -W "$*" -- "$current")
+}
+
+# The options that may follow DATE, without those that are there.
+_picky_options() { # CURRENT
+    local option left=()
+    for option in --until --no-before --no-after --no-chain --list; do
+        [[ " ${COMP_WORDS[*]:1:COMP_CWORD-1} " == *" $option "* ]] || left+=("$option")
+    done
+    _picky_words "$1" "${left[@]}"
+}
+
+_picky_checked() { # CURRENT PREVIOUS COUNT-OF-WORDS-BEFORE-OPTIONS
+    case $2 in
+        --until) _picky_words "$1" "$(date -u +%Y-%m-%d)" ;;
+        --list) _picky_files "" "$1" ;;
+        *) if ((COMP_CWORD > $3)); then _picky_options "$1"; else _picky_files "" "$1"; fi ;;
+    esac
+}
+
+_picky() {
+    local current=$2 previous=$3
+    if ((COMP_CWORD == 1)); then
+        _picky_words "$current" basic check chain demo
+    elif [[ ${COMP_WORDS[1]} == check ]]; then
+        _picky_checked "$current" "$previous" 5
+    else
+        _picky_files "" "$current"
+    fi
+}
+
+_picky_pe() {
+    _picky_checked "$2" "$3" 3
+}
+
+_picky_anchor() {
+    case $COMP_CWORD in
+        2) _picky_words "$2" code time ;;
+        3) _picky_words "$2" "$(date -u +%Y-%m-%d)" ;;
+        4) _picky_words "$2" 1 2 3 4 5 6 7 8 ;;
+        *) _picky_files "" "$2" ;;
+    esac
+}
+
+_check_program() {
+    case $3 in
+        --at) _picky_words "$2" "$(date -u +%Y-%m-%d)" ;;
+        --digest) COMPREPLY=() ;;
+        --programs)
+            mapfile -t COMPREPLY < <(compgen -d -- "$2")
+            compopt -o filenames
+            ;;
+        *)
+            if [[ $2 == -* ]]; then
+                _picky_words "$2" --root --stamp-root --at --json --digest --programs --try --help
+            else
+                _picky_files "" "$2"
+            fi
+            ;;
+    esac
+}
+
+complete -F _picky picky
+complete -F _picky_pe picky_pe
+complete -F _picky_anchor picky_anchor
+complete -F _check_program check_program.py

@@ -1,0 +1,134 @@
+"""The proved programs: where they are, how they are called, and what they may answer.
+
+A program ends with status 0 or 1 and prints one line, or ends with a status that its
+manual names and prints nothing (docs/MANUAL.md, "Exit statuses").  Anything else is a
+`Disagreement`: then nothing is accepted.
+"""
+
+import os
+import re
+import subprocess
+from pathlib import Path
+from shutil import which
+from typing import NamedTuple
+
+from common import command, folders
+
+ACCEPTED = {
+    "picky": r"accepted (?:parents=(?P<parents>\d+)|signer=(?P<signer>\d+) path=(?P<path>[\d,]*) excuse=(?P<excuse>none|bag|token))\n",
+    "picky_pe": r"accepted signer=(?P<signer>\d+) path=(?P<path>[\d,]*) excuse=(?P<excuse>none|bag|token)\n",
+    "picky_anchor": r"anchored pool=(?P<pool>[\d,]*) anchor=(?P<anchor>\d+)\n",
+}
+REFUSED = re.compile(r"refused (?P<name>[A-Za-z0-9]+(?::[A-Za-z0-9]+)*)\n")
+# What each other status says (docs/MANUAL.md).
+STATUSES = {
+    2: "it takes these words for wrong ones",
+    3: "a line of the table isn't in its form",
+    4: "a file can't be read",
+    5: "its line can't be written",
+    6: "a file has more than 16,777,216 octets, which is the most that the proved programs read",
+    7: "there isn't enough memory",
+}
+SECONDS = 120
+# What `rt try` says last of a program that ended.
+TRIED = re.compile(rb"^run=ended status=(\d+) .*proved=no$", re.MULTILINE)
+VARIABLE = "PICKY_PROGRAMS"
+
+
+class NotThere(command.Refusal):
+    """A program isn't built."""
+
+
+class Disagreement(Exception):
+    """Why what the programs answer doesn't go together."""
+
+
+class NotChecked(Exception):
+    """A program ended with a status that is no answer to its question."""
+
+    def __init__(self, status, why):
+        super().__init__(why)
+        self.status = status
+
+
+class Answer(NamedTuple):
+    """What a program answered: the words that it was called with for people, its status, and its output."""
+
+    program: str
+    shown: str
+    status: int
+    output: str
+
+    def line(self):
+        return self.output.rstrip("\n")
+
+    def accepted(self):
+        """The parts of the line where the program accepts, None where it refuses."""
+        found = re.fullmatch(ACCEPTED[self.program], self.output)
+        if self.status == 0 and found:
+            return found.groupdict()
+        if self.status == 1 and REFUSED.fullmatch(self.output):
+            return None
+        if self.status in STATUSES and not self.output:
+            raise NotChecked(self.status, f"{self.program} ends with status {self.status}: {STATUSES[self.status]}")
+        raise Disagreement(f"{self.program} ends with status {self.status} and prints {self.output[:200]!r}, which is none of its answers")
+
+    def refusal(self):
+        """The NAME of the refusal; what `accepted` raises comes first."""
+        if self.accepted() is not None:
+            return None
+        return REFUSED.fullmatch(self.output)["name"]
+
+
+class Programs:
+    """The built programs, in a folder, in the crates of this repository, or on the PATH."""
+
+    # Whether they were proved when they were built, and whether calls are quick enough to look for a reason.
+    proved = True
+    quick = True
+
+    def __init__(self, folder=None):
+        self.folder = folder or os.environ.get(VARIABLE)
+
+    def path(self, program):
+        """Where a program is; NotThere where it is nowhere."""
+        if self.folder:
+            places = [Path(self.folder) / program, Path(self.folder) / program / "out" / program]
+        else:
+            places = [folders.CRATES / program / "out" / program, *filter(None, [which(program)])]
+        for place in places:
+            if Path(place).is_file() and os.access(place, os.X_OK):
+                return Path(place).resolve()
+        raise NotThere(
+            f"the program {program} isn't built: `.ci/run` builds all of them, `rt run` in crates/{program} that one; "
+            f"or name the folder that has it, by --programs FOLDER or {VARIABLE}")
+
+    def run(self, program, words, shown):
+        """What a program answers to these words."""
+        path = self.path(program)
+        try:
+            done = subprocess.run([str(path), *map(str, words)], stdin=subprocess.DEVNULL, capture_output=True, timeout=SECONDS)
+        except subprocess.TimeoutExpired as late:
+            raise NotChecked(command.CANT, f"{program} didn't end within {SECONDS} seconds") from late
+        return Answer(program, shown, done.returncode, done.stdout.decode("utf-8", "replace"))
+
+
+class Tried(Programs):
+    """The programs run from their sources by `rt try`, which compiles them anew at each call and proves nothing."""
+
+    proved = False
+    quick = False
+
+    def run(self, program, words, shown):
+        """The same answer; files are handed to `rt try` by their names."""
+        files = {word: f"file{place}" for place, word in enumerate(words) if isinstance(word, Path)}
+        data = [part for file, name in files.items() for part in ("--data", f"{name}={file}")]
+        called = ["rt", "try", *data, "--", *(files.get(word, str(word)) for word in words)]
+        try:
+            done = subprocess.run(called, cwd=folders.CRATES / program, stdin=subprocess.DEVNULL, capture_output=True)
+        except FileNotFoundError as refusal:
+            raise NotThere("the command rt of the kit isn't there, which --try needs") from refusal
+        ended = TRIED.search(done.stderr)
+        if not ended:
+            raise NotChecked(command.CANT, f"`rt try` in crates/{program} doesn't run the program to its end")
+        return Answer(program, f"{shown} (by rt try)", int(ended[1]), done.stdout.decode("utf-8", "replace"))
