@@ -20,6 +20,7 @@ mod of_private_key_types;
 mod of_program_frame;
 mod of_request_types;
 mod of_sig_core;
+mod of_signature_questions;
 pub(crate) mod of_trust_anchors;
 mod of_trust_list;
 mod of_wincert_core;

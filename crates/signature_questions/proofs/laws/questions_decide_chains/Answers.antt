@@ -1,0 +1,8 @@
+use Rattle.signature_questions.proofs.Chains.{chain_accepted, chain_refused}
+use Rattle.signature_questions.proofs.laws.questions_decide_chains.Goals as goal
+
+pub returns-clause-accepted : goal.returns-clause-accepted
+returns-clause-accepted c = λ a b checks checked parents admits h. chain_accepted a b checks checked parents admits h
+
+pub returns-clause-refused : goal.returns-clause-refused
+returns-clause-refused c = λ a b checks checked parents e agree h. chain_refused a b checks checked parents e agree h
