@@ -1,7 +1,7 @@
 //! The certificates of a demonstration, issued by a builder's calls and validated one by one.
 
 use demo_core::{Step, demonstrate, history_of, private_key_of};
-use key_core::PrivateKey;
+use key_core::{PrivateKey, PublicKey};
 use names_core::{DirectoryName, UtcDate};
 use sha2::{Digest, Sha256};
 use sig_core::DemoScheme;
@@ -50,19 +50,42 @@ fn key_of(alloc: Global, index: usize) -> Result<PrivateKey, Fail> {
     }
 }
 
+/// The root of a step.
+fn root_of(
+    alloc: Global,
+    serial: u32,
+    step: &Step,
+    name: DirectoryName,
+    own: &PrivateKey,
+) -> Result<Cert, Fail> {
+    let builder = begun(alloc, step)?.self_signed(name, own);
+    Ok(builder.build(alloc, serial, &DemoScheme::new())?)
+}
+
+/// The certificate of a step for a name and a key, under the issuer's.
+fn child_of(
+    alloc: Global,
+    serial: u32,
+    step: &Step,
+    (name, key): (DirectoryName, PublicKey),
+    (issuer, issuer_key): (&Cert, &PrivateKey),
+) -> Result<Cert, Fail> {
+    let mut builder = begun(alloc, step)?.subject(name, key);
+    builder.issuer_cert(issuer, issuer_key)?;
+    Ok(builder.build(alloc, serial, &DemoScheme::new())?)
+}
+
 /// The certificate of the step of this index, after those of the steps before it.
 fn issued(alloc: Global, index: u8, step: &Step, before: &[Cert]) -> Result<Cert, Fail> {
     let serial = u32::from(index) + 1;
     let own = key_of(alloc, usize::from(index))?;
     let name = name_of(alloc, index)?;
     let Some(issuer) = step.issuer else {
-        let builder = begun(alloc, step)?.self_signed(name, &own);
-        return Ok(builder.build(alloc, serial, &DemoScheme::new())?);
+        return root_of(alloc, serial, step, name, &own);
     };
     let key = key_of(alloc, issuer)?;
-    let mut builder = begun(alloc, step)?.subject(name, own.to_public_key(alloc)?);
-    builder.issuer_cert(at(before, issuer)?, &key)?;
-    Ok(builder.build(alloc, serial, &DemoScheme::new())?)
+    let subject = (name, own.to_public_key(alloc)?);
+    child_of(alloc, serial, step, subject, (at(before, issuer)?, &key))
 }
 
 /// Copies of the certificates of all ancestors, the nearest first.
