@@ -1,4 +1,4 @@
-"""Rows of `xgolden_anchor_run`: whole runs of `picky_anchor`, each with the reason why it is there.
+"""Rows of `xgolden_run`: whole runs of `picky_anchor`, each with the reason why it is there.
 
 The certificates are those of `anchor_rows`.  A table has a row for each signature that the demonstration scheme
 accepts.  The line of a path comes from `anchor_judge`; status and line of other runs are those of docs/MANUAL.md.
@@ -173,14 +173,3 @@ def all_cases():
             yield ROOM, None, *case
     yield from sinks()
     yield from shelves()
-
-
-def row(room, call, files, words, expected):
-    listed = ",".join(f"{name}={octets.hex()}" for name, octets in files.items()) or "-"
-    status, line = expected
-    return " ".join((str(room), "-" if call is None else str(call), listed, *words)), f"{status} {line}"
-
-
-def rows():
-    for *case, _ in all_cases():
-        yield row(*case)

@@ -1,19 +1,20 @@
 #!/usr/bin/env python3
-"""Refuse each growth of memory of the built program in turn.
+"""Refuse each request for memory of the built programs in turn.
 
 Usage:
 
-    python3 tools/gate/refuse_memory.py PROGRAM
+    python3 tools/gate/refuse_memory.py PROGRAM ..
 
-runs PROGRAM, the executable of the crate `picky`, on the rows below: as it is,
-where it asks for memory so many times, and then once for each of these, which
-is refused.  Each such run has to end with status 7 and print nothing, or to
-answer as the first one did.  It prints a line for each row, and its exit
+runs each PROGRAM, the executable of the crate of its name, on the rows below: as
+it is, where it asks for memory so many times, and then once for each of these,
+which is refused.  Each such run has to end with status 7 and print nothing, or
+to answer as the first one did.  It prints a line for each row, and its exit
 status is 1 where a run answers something else.
 
-What refuses memory is a library in C between the program and the
-system's `malloc` and `realloc`; it is compiled by `cc`, as system libraries for
-Linux are.
+The rows are the commands of `run_rows`, and for `picky` also those of
+`run_program`, one for each job, status and line.  What refuses memory is a
+library in C between the program and the system's `malloc` and `realloc`; it is
+compiled by `cc`, as system libraries for Linux are.
 """
 
 import os
@@ -24,6 +25,7 @@ from pathlib import Path
 
 sys.path.insert(0, str(Path(__file__).resolve().parents[1]))
 
+from cases import run_rows
 from common import command
 from gate import run_program
 
@@ -65,13 +67,17 @@ __attribute__((destructor)) static void count(void) {
 """
 
 
-def rows():
-    """Rows whose report goes to standard output, one for each job and answer."""
-    wanted = {}
-    for row in run_program.ROWS:
-        if row.output == "read" and row.given == b"" and row.status in (0, 1, 3):
-            wanted.setdefault((row.words[0], row.status, row.line), row)
-    return wanted.values()
+def rows(name):
+    """Rows of a program whose report goes to standard output, one for each job and answer."""
+    if name == "picky":
+        wanted = {}
+        for row in run_program.ROWS:
+            if row.output == "read" and row.given == b"" and row.status in (0, 1, 3):
+                wanted.setdefault((row.words[0], row.status, row.line), row)
+        yield from wanted.values()
+    for one in run_rows.commands():
+        if one.program == name:
+            yield run_program.Row("a command", one.words, one.status, f"{one.line}\n", one.files)
 
 
 def run(program, row, folder, library, **environment):
@@ -89,7 +95,7 @@ def compiled(folder):
 
 
 def judged(program, row, library):
-    """How often the program asks for memory, and the refusals that it answers otherwise."""
+    """What the program answers, how often it asks for memory, and the refusals that it answers otherwise."""
     with tempfile.TemporaryDirectory() as name:
         folder = Path(name)
         counted = folder / "counted"
@@ -100,28 +106,39 @@ def judged(program, row, library):
         counted.unlink()
         answers = {at: run(program, row, folder, library, REFUSED=str(at)) for at in range(1, asked + 1)}
     wrong = {at: answer for at, answer in answers.items() if answer not in (expected, NO_MEMORY)}
+    if expected != (row.status, row.line.encode()):
+        wrong[0] = expected
     same = sum(answer == expected for answer in answers.values())
     return asked, same, wrong
 
 
+def told(program, library):
+    """Prints a line for each row of a program: how many rows and refusals there are, and whether all are answered as they have to be."""
+    name, kept, rows_run, runs = os.path.basename(program), True, 0, 0
+    for row in rows(name):
+        asked, same, wrong = judged(program, row, library)
+        print(f"{name} {row.words[0]}, status {row.status}, {row.line.strip() or 'no line'}: "
+              f"{asked} refusals, {same} with the same answer, {len(wrong)} with another", flush=True)
+        for at, answer in wrong.items():
+            print(f"    refusal {at}: {answer}")
+        kept &= not wrong
+        rows_run, runs = rows_run + 1, runs + asked
+    if not rows_run:
+        raise command.Refusal(f"there are no rows for a program {name}")
+    print(f"refused memory: {name}: {rows_run} rows, {runs} refusals, {'none' if kept else 'some'} with another answer")
+    return kept
+
+
 def main(words):
-    if len(words) != 1:
+    if not words:
         return command.usage(__doc__)
-    program = os.path.abspath(words[0])
-    if not os.access(program, os.X_OK) or not os.path.isfile(program):
-        raise command.Refusal(f"{words[0]} is no program")
-    kept, rows_run, runs = True, 0, 0
+    programs = list(map(os.path.abspath, words))
+    for program, word in zip(programs, words):
+        if not os.access(program, os.X_OK) or not os.path.isfile(program):
+            raise command.Refusal(f"{word} is no program")
     with tempfile.TemporaryDirectory() as name:
         library = compiled(Path(name))
-        for row in rows():
-            asked, same, wrong = judged(program, row, library)
-            print(f"{row.words[0]}, status {row.status}, {row.line.strip() or 'no line'}: {asked} refusals, {same} with the same answer, {len(wrong)} with another")
-            for at, answer in wrong.items():
-                print(f"    refusal {at}: {answer}")
-            kept &= not wrong
-            rows_run, runs = rows_run + 1, runs + asked
-    print(f"refused memory: {rows_run} rows, {runs} refusals, {'none' if kept else 'some'} with another answer")
-    return 0 if kept else 1
+        return 0 if all([told(program, library) for program in programs]) else 1
 
 
 if __name__ == "__main__":

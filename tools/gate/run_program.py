@@ -7,7 +7,8 @@ Usage:
 
 runs PROGRAM, the executable of the crate `picky`, once for each row below,
 in a fresh folder with the files of the row, and compares the exit status,
-the octets on standard output and standard error, which must stay empty.
+the octets on standard output and standard error, which must stay empty.  Each
+run has a stack of 1 MiB.
 
 The contracts of `picky_check` speak of shelves and sinks, and stop where
 the system begins: at the words of the command line, the paths of files,
@@ -29,6 +30,7 @@ Exit status 1 says that a row differs.
 """
 
 import os
+import resource
 import struct
 import subprocess
 import sys
@@ -49,6 +51,8 @@ from judges import check_judge, demo_maker
 
 SECONDS = 60
 LONGEST_FILE = 16_777_216
+# An eighth of the usual limit of the stack.
+STACK = 1024 * 1024
 
 SIGNATURE = signature_file()
 TABLE = verdict_line().encode("ascii")
@@ -755,6 +759,12 @@ def opened_output(row):
     return None
 
 
+def prepare(row):
+    """In the process of the program: little stack, and the streams of the row."""
+    resource.setrlimit(resource.RLIMIT_STACK, (STACK, STACK))
+    close_streams(row)
+
+
 def run(program, row, folder):
     """The status, and the octets on standard output and standard error."""
     given = {"stdin": subprocess.DEVNULL} if row.given is None else {"input": row.given}
@@ -765,7 +775,7 @@ def run(program, row, folder):
             cwd=folder,
             stdout=output or subprocess.PIPE,
             stderr=subprocess.PIPE,
-            preexec_fn=lambda: close_streams(row),
+            preexec_fn=lambda: prepare(row),
             timeout=SECONDS,
             check=False,
             **given,

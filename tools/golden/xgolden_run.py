@@ -1,12 +1,12 @@
 #!/usr/bin/env python3
-"""Make the files of the stored run of `xgolden_anchor_run`.
+"""Make the files of the stored run of `xgolden_run`.
 
 Usage:
 
-    python3 tools/golden/xgolden_anchor_run.py FOLDER
+    python3 tools/golden/xgolden_run.py FOLDER
 
-It writes FOLDER/data/rows and FOLDER/stdout.  Rows and lines come from `anchor_run_rows`, which rests on a search of
-its own.
+It writes FOLDER/data/rows and FOLDER/stdout.  Rows and lines come from `run_rows` and, for `picky_anchor`, from
+`anchor_run_rows`, which rests on a search of its own.
 """
 
 import sys
@@ -14,7 +14,7 @@ from pathlib import Path
 
 sys.path.insert(0, str(Path(__file__).resolve().parents[1]))
 
-from cases.anchor_run_rows import rows
+from cases.run_rows import rows
 from common import command
 from golden.stored_run import write_stored_run
 
@@ -26,7 +26,7 @@ def stored_files():
 
 
 def main(arguments):
-    return write_stored_run("xgolden_anchor_run.py", stored_files, arguments)
+    return write_stored_run("xgolden_run.py", stored_files, arguments)
 
 
 if __name__ == "__main__":
