@@ -12,10 +12,11 @@ octet, writes and reads each, and verifies it over all its ancestors, but for
 the signature: neither program does arithmetic.  Both have to print the line of
 `demo_lines.py`.
 
-The processor time and the greatest resident memory of whole runs are taken, in
-turn; a figure is the median of the rounds.  A markdown table is printed, and
-the status is 1 if our time is more than OpenSSL's, else 0.  This is no part of
-the gate: the figures depend on the machine.
+The processor time of whole runs is taken, in turn; a figure is the median of
+the rounds.  The memory of both is below some 9 MiB, what a process has that
+starts them (`bench/program/measure.py`), so it can't be seen.  A markdown table
+is printed, and the status is 1 if our time is more than OpenSSL's, else 0.
+This is no part of the gate: the figures depend on the machine.
 """
 
 import argparse
@@ -34,6 +35,7 @@ from golden import demo_lines
 from judges import demo_maker
 
 HERE = Path(__file__).resolve().parent
+MEASURE = [sys.executable, "-I", "-S", str(HERE.parent / "program/measure.py")]
 MOMENT = int(datetime(demo_maker.CHECKED_YEAR, 1, 1, tzinfo=timezone.utc).timestamp())
 
 
@@ -45,21 +47,19 @@ def built(folder):
 
 
 def measured(words, wanted):
-    """Milliseconds that the processor worked, and KiB of memory."""
-    with tempfile.TemporaryFile() as output:
-        pid = os.posix_spawnp(words[0], words, os.environ, file_actions=[(os.POSIX_SPAWN_DUP2, output.fileno(), 1)])
-        _, status, usage = os.wait4(pid, 0)
-        output.seek(0)
-        line = output.read().decode("ascii")
-    if status or line != wanted:
-        raise command.Refusal(f"{words[0]} ended with {os.waitstatus_to_exitcode(status)} and printed {line!r}")
-    return (usage.ru_utime + usage.ru_stime) * 1000, usage.ru_maxrss
+    """Milliseconds that the processor worked."""
+    output = subprocess.run([*MEASURE, *words], stdout=subprocess.PIPE, check=True).stdout.decode("ascii")
+    line, figures = output.rstrip("\n").rsplit("\n", 1)
+    _, processor, _, status = figures.split()
+    if status != "0" or line != wanted:
+        raise command.Refusal(f"{words[0]} ended with {status} and printed {line!r}")
+    return float(processor) * 1000
 
 
 def medians(programs, wanted, rounds):
-    """By its name the figures of each program."""
+    """By its name the median of each program."""
     runs = [{name: measured(words, wanted) for name, words in programs.items()} for _ in range(rounds + 1)][1:]
-    return {name: [median(one[name][which] for one in runs) for which in (0, 1)] for name in programs}
+    return {name: median(one[name] for one in runs) for name in programs}
 
 
 def main(words):
@@ -79,10 +79,9 @@ def main(words):
         }
         figures = medians(programs, f"{demo_maker.line(options.steps)}\n", options.rounds)
     print(f"{options.steps} steps, {options.rounds} rounds, load {os.getloadavg()[0]:.0f}\n")
-    print("| | processor ms | memory KiB |\n|---|---:|---:|")
-    for name, (time, memory) in figures.items():
-        print(f"| {name} | {time:.1f} | {memory:,} |")
-    return 1 if figures["ours"][0] > figures["openssl"][0] else 0
+    print("| steps | ours ms | openssl ms |\n|---:|---:|---:|")
+    print(f"| {options.steps} | {figures['ours']:.1f} | {figures['openssl']:.1f} |")
+    return 1 if figures["ours"] > figures["openssl"] else 0
 
 
 if __name__ == "__main__":

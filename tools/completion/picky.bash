@@ -36,6 +36,8 @@ _picky() {
         _picky_words "$current" basic check chain demo
     elif [[ ${COMP_WORDS[1]} == check ]]; then
         _picky_checked "$current" "$previous" 5
+    elif [[ ${COMP_WORDS[1]} == demo ]]; then
+        COMPREPLY=()
     else
         _picky_files "" "$current"
     fi

@@ -10,11 +10,11 @@ Usage:
 
 N is from 1 to 200.  The first prints the line, which `demo_maker` makes.  The
 second prints a line for each step: its number, its issuer, the CA flag, the
-path length, the years of its window, and whether it is valid on 2025-01-01,
+path length, the years of its validity, and whether it is valid on 2025-01-01,
 `-` for none.  The third prints each certificate in hexadecimal digits.
 
-The last has openssl (3.0 or later) read each certificate, and compares what it
-says of the fields with the steps.  Signatures are those of the demonstration
+The last has openssl (3.0 or later) read each certificate, and compares the
+fields that it prints with the steps.  Signatures are those of the demonstration
 scheme, which openssl doesn't check.
 """
 

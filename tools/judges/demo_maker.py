@@ -6,18 +6,18 @@ the writer of elements of `der_reader`.
 
 The history has N steps. Its numbers are drawn by a linear congruential
 generator that begins at N: each draw sets the state x to 1103515245 x + 12345
-modulo 2^31 and gives x divided by 65536. Step k draws a, b, c and d.
+modulo 2^31 and is x divided by 65536, rounded down. Step k draws a, b, c and d.
 
   issuer       none where k is 0 or a is a multiple of 8, else step a modulo k;
   CA flag      b isn't a multiple of 4;
   path length  none where b/4 is a multiple of 3, else b/16 modulo 4;
-  window       from 1 January of 2000 + c modulo 10 to 1 January of
+  validity     from 1 January of 2000 + c modulo 10 to 1 January of
                2020 + d modulo 20.
 
 A step is valid at a date where the root of its ancestors, itself where it has
 no issuer, and every ancestor are CAs, the k-th ancestor, counted from the
 nearest and from 0, allows k certificates below it (RFC 5280 4.2.1.9), and the
-date lies in the window of the step and of each ancestor.
+date is in the validity of the step and of each ancestor.
 
 The certificate of step k has the serial number k + 1, the common name `N` and
 k, and an RSA key with the modulus 01 and k in three octets and the exponent 3.
