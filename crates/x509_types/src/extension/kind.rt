@@ -1,12 +1,13 @@
 //! The kinds of extensions, by OID.
 
-ghost use Rattle.std.specs.Prelude.{◌≡◌};
+ghost use Rattle.std.specs.Prelude.{◌≡◌, bytes_eq};
 ghost use Rattle.x509_types.specs.ExtensionKind.{named_kind};
 
 use asn1_types::oids::{
     CE_AUTHORITY_KEY_IDENTIFIER, CE_BASIC_CONSTRAINTS, CE_EXT_KEY_USAGE, CE_ISSUER_ALT_NAME,
     CE_KEY_USAGE, CE_SUBJECT_ALT_NAME, CE_SUBJECT_KEY_IDENTIFIER,
 };
+use der_core::is_same;
 
 /// A kind of extensions.
 #[derive(Clone, Copy, Debug, PartialEq, Eq)]
@@ -34,27 +35,35 @@ impl ExtensionKind {
     pub fn named(oid: &[u8]) -> ExtensionKind
         ensures { result ≡ named_kind oid.now }
     {
-        if oid == CE_SUBJECT_KEY_IDENTIFIER {
+        if is_named(oid, CE_SUBJECT_KEY_IDENTIFIER) {
             return ExtensionKind::SubjectKeyIdentifier;
         }
-        if oid == CE_KEY_USAGE {
+        if is_named(oid, CE_KEY_USAGE) {
             return ExtensionKind::KeyUsage;
         }
-        if oid == CE_SUBJECT_ALT_NAME {
+        if is_named(oid, CE_SUBJECT_ALT_NAME) {
             return ExtensionKind::SubjectAltName;
         }
-        if oid == CE_ISSUER_ALT_NAME {
+        if is_named(oid, CE_ISSUER_ALT_NAME) {
             return ExtensionKind::IssuerAltName;
         }
-        if oid == CE_BASIC_CONSTRAINTS {
+        if is_named(oid, CE_BASIC_CONSTRAINTS) {
             return ExtensionKind::BasicConstraints;
         }
-        if oid == CE_AUTHORITY_KEY_IDENTIFIER {
+        if is_named(oid, CE_AUTHORITY_KEY_IDENTIFIER) {
             return ExtensionKind::AuthorityKeyIdentifier;
         }
-        if oid == CE_EXT_KEY_USAGE {
+        if is_named(oid, CE_EXT_KEY_USAGE) {
             return ExtensionKind::ExtendedKeyUsage;
         }
         ExtensionKind::Other
     }
+}
+
+/// Whether these are the contents octets of the known OID.
+#[inline(always)]
+fn is_named(oid: &[u8], known: &[u8]) -> bool
+    ensures { result ≡ bytes_eq oid.now known.now }
+{
+    is_same(oid, known)
 }
