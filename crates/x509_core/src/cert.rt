@@ -98,7 +98,7 @@ impl Cert {
         }
     }
 
-    /// Reads a certificate. The octets are tested before anything is allocated.
+    /// Reads a certificate. Its shape is tested as its fields are read.
     fn read(alloc: Global, der: &[u8]) -> Result<Cert, DerError>
         ensures kept { IfOk result (λ cert. kept_octets cert ≡ der.now) }
         ensures answer { MatchResult result
@@ -110,14 +110,15 @@ impl Cert {
             → ((c : Certificate) → IsCertificate element c → ⊥) → result ≡ Err der_errors.Shape }
     {
         let elem = exact_elem(der)?;
-        if !is_certificate(elem) {
-            return Err(DerError::Shape);
+        match Cert::from_elem(alloc, elem) {
+            Ok(cert) => Ok(cert),
+            Err(error) => Err(refusal(elem, error)),
         }
-        Cert::read_at(alloc, elem)
     }
 
-    /// The certificate that an element encodes, with a copy of its octets.
-    fn read_at(alloc: Global, elem: Elem<'_>) -> Result<Cert, DerError>
+    /// The certificate that a borrowed element encodes, with a copy of its octets, which are not
+    /// tested again. Fails with `Shape`, if it encodes none, or `Memory`.
+    pub fn from_elem(alloc: Global, elem: Elem<'_>) -> Result<Cert, DerError>
         ensures kept { IfOk result (λ cert. certificate_of cert.elements ≡ elem.entry.is.0) }
         ensures answer { MatchResult result
             (λ cert. IsCertificate elem.entry.is.0 cert.certificate)
@@ -299,6 +300,20 @@ fn is_certificate(elem: Elem<'_>) -> bool
     ensures unfit { result ≡ false → (c : Certificate) → IsCertificate elem.entry.is.0 c → ⊥ }
 {
     CertView::read(elem).is_some()
+}
+
+/// Why an element wasn't read: if it encodes no certificate, for its shape, even when memory ran
+/// out first.
+fn refusal(elem: Elem<'_>, error: DerError) -> DerError
+    requires { RefusesShape (IsCertificate elem.is.0) error }
+    ensures answer { RefusesShape (IsCertificate elem.entry.is.0) result }
+    ensures shapeless { ((c : Certificate) → IsCertificate elem.entry.is.0 c → ⊥)
+        → result ≡ der_errors.Shape }
+{
+    if is_certificate(elem) {
+        return error;
+    }
+    DerError::Shape
 }
 
 /// The encoding of a certificate.

@@ -1,4 +1,4 @@
-use Rattle.std.proofs.Common.{Err, ap, subst, rules}
+use Rattle.std.proofs.Common.{Ok, Err, ap, subst}
 use Rattle.std.proofs.lemmas.Result.{err_from_is_err_and}
 use Rattle.der_core.specs.declared.error.DerError.TheVariants as errors
 use Rattle.der_core.proofs.Exact.{whole_once, no_fault_where_whole, refused_exactly}
@@ -14,27 +14,27 @@ returns-in_err-elem-clause-faulty c = λ at fault there.
 pub returns-in_err-elem-clause-shapeless : goal.returns-in_err-elem-clause-shapeless
 returns-in_err-elem-clause-shapeless c = λ element der is none. absurd (no_fault_where_whole c.args.der.now element _ _ der is c.in_err-elem.ensures)
 
-pub returns-then-not-is_certificate-clause-faulty : goal.returns-then-not-is_certificate-clause-faulty
-returns-then-not-is_certificate-clause-faulty c = λ at fault there. absurd (no_fault_where_whole c.args.der.now _ at fault c.in_ok-elem.elem.is.1.0 c.in_ok-elem.ensures there)
+pub returns-in-Ok-clause-faulty : goal.returns-in-Ok-clause-faulty
+returns-in-Ok-clause-faulty c = λ at fault there. absurd (no_fault_where_whole c.args.der.now _ at fault c.in_ok-elem.elem.is.1.0 c.in_ok-elem.ensures there)
 
-pub returns-then-not-is_certificate-clause-answer : goal.returns-then-not-is_certificate-clause-answer
-returns-then-not-is_certificate-clause-answer c = record {
-  element = c.in_ok-elem.elem.is.0;
-  der = c.in_ok-elem.elem.is.1.0;
-  encoded = c.in_ok-elem.ensures;
-  none = c.is_certificate.ensures.unfit (search rules);
-}
+pub returns-in-Ok-clause-shapeless : goal.returns-in-Ok-clause-shapeless
+returns-in-Ok-clause-shapeless c = λ element der is none.
+    let same = whole_once c.args.der.now _ element c.in_ok-elem.elem.is.1.0 der c.in_ok-elem.ensures is in
+    absurd (none c.in-Ok.cert.certificate (subst (λ e. IsCertificate e c.in-Ok.cert.certificate) same c.in-Ok.ensures.answer))
 
-pub returns-clause-faulty : goal.returns-clause-faulty
-returns-clause-faulty c = λ at fault there. absurd (no_fault_where_whole c.args.der.now _ at fault c.in_ok-elem.elem.is.1.0 c.in_ok-elem.ensures there)
+pub returns-in-Ok-clause-kept : goal.returns-in-Ok-clause-kept
+returns-in-Ok-clause-kept c = read_whole c.args.der.now _ (Ok c.in-Ok.cert) c.in_ok-elem.ensures c.in-Ok.ensures.kept
 
-pub returns-clause-shapeless : goal.returns-clause-shapeless
-returns-clause-shapeless c = λ element der is none.
-    let fit = c.is_certificate.ensures.fits (search rules) in
-    absurd (none fit.0 (subst (λ e. IsCertificate e fit.0) (whole_once c.args.der.now _ element c.in_ok-elem.elem.is.1.0 der c.in_ok-elem.ensures is) fit.1))
+pub returns-in-Ok-clause-answer : goal.returns-in-Ok-clause-answer
+returns-in-Ok-clause-answer c = read_value c.args.der.now _ (Ok c.in-Ok.cert) c.in_ok-elem.elem.is.1.0 c.in_ok-elem.ensures c.in-Ok.ensures.answer
 
-pub returns-clause-kept : goal.returns-clause-kept
-returns-clause-kept c = read_whole c.args.der.now _ c.read_at.result c.in_ok-elem.ensures c.read_at.ensures.kept
+pub returns-in-Err-clause-faulty : goal.returns-in-Err-clause-faulty
+returns-in-Err-clause-faulty c = λ at fault there. absurd (no_fault_where_whole c.args.der.now _ at fault c.in_ok-elem.elem.is.1.0 c.in_ok-elem.ensures there)
 
-pub returns-clause-answer : goal.returns-clause-answer
-returns-clause-answer c = read_value c.args.der.now _ c.read_at.result c.in_ok-elem.elem.is.1.0 c.in_ok-elem.ensures c.read_at.ensures.answer
+pub returns-in-Err-clause-shapeless : goal.returns-in-Err-clause-shapeless
+returns-in-Err-clause-shapeless c = λ element der is none.
+    let same = whole_once c.args.der.now _ element c.in_ok-elem.elem.is.1.0 der c.in_ok-elem.ensures is in
+    ap Err (c.refusal.ensures.shapeless (λ cert spelled. none cert (subst (λ e. IsCertificate e cert) same spelled)))
+
+pub returns-in-Err-clause-answer : goal.returns-in-Err-clause-answer
+returns-in-Err-clause-answer c = read_value c.args.der.now _ (Err c.refusal.result) c.in_ok-elem.elem.is.1.0 c.in_ok-elem.ensures c.refusal.ensures.answer
