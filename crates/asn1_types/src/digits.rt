@@ -13,6 +13,7 @@ pub fn digits_of(number: u8) -> [u8; 2]
 
 /// The number whose digits are two octets of the slice, from index `at` on; `None` exactly if one
 /// isn't a digit.
+#[inline(always)]
 pub fn number_at(bytes: &[u8], at: usize) -> Option<u8>
     requires { at + 1 < length bytes.now }
     ensures { MatchOption result

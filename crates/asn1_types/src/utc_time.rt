@@ -35,6 +35,7 @@ impl UTCTime {
 
     /// The time with these fields, `None` exactly if the moment doesn't exist or the year isn't in
     /// 1950 to 2049.
+    #[inline(always)]
     pub fn new(year: u16, month: u8, day: u8, hour: u8, minute: u8, second: u8) -> Option<UTCTime>
         ensures exists { IsSome result
             ↔ (IsMoment year month day hour minute second × IsUtcYear year) }

@@ -123,6 +123,7 @@ impl<'a> Kids<'a> {
     /// The flag of a BOOLEAN DEFAULT FALSE, present or absent (X.690 8.2, 11.5). An encoded FALSE
     /// is accepted, too, and any octet but 00 for TRUE. `None` for a BOOLEAN of another length,
     /// which isn't consumed.
+    #[inline(always)]
     pub fn next_default_false(&mut self) -> Option<bool>
         ensures { MatchOption result
             ((self.new.are.0 ≡ self.old.are.0) × HasBadFlag self.old.are.0)

@@ -57,6 +57,7 @@ pub fn bit_octets_at<'a>(elem: Elem<'a>) -> Option<&'a [u8]>
 
 /// The value of a BOOLEAN: one octet, zero for false, any other for true (X.690 8.2); `None` for
 /// any other element.
+#[inline(always)]
 pub fn boolean_at(elem: Elem<'_>) -> Option<bool>
     ensures { MatchOption result
         ((b : Bool) → IsBoolean elem.entry.is.0 b → ⊥)

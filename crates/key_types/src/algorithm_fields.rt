@@ -17,6 +17,7 @@ pub(crate) struct AlgorithmFields<'a> {
 
 impl<'a> AlgorithmFields<'a> {
     /// The fields of the element.
+    #[inline(always)]
     pub(crate) fn of(elem: Elem<'a>) -> Option<AlgorithmFields<'a>>
         ensures { MatchOption result
             ((oid : DerElement) (parameters : Option DerElement)

@@ -36,6 +36,7 @@ pub(crate) struct ExtensionFields<'a> {
 
 impl<'a> ExtensionFields<'a> {
     /// The fields of the element.
+    #[inline(always)]
     pub fn of(elem: Elem<'a>) -> Option<ExtensionFields<'a>>
         ensures { MatchOption result
             ((oid : DerElement) (critical : Bool) (octets : List ℕ)

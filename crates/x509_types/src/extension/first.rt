@@ -8,6 +8,7 @@ use der_core::tag::{OBJECT_IDENTIFIER, SEQUENCE};
 use der_core::{Elem, Kids, expect_leaf};
 
 /// The octets in the element if it is an extension with this OID, given as contents octets.
+#[inline(always)]
 pub(crate) fn octets_named<'a>(extension: Elem<'a>, oid: &[u8]) -> Option<&'a [u8]>
     ensures { MatchOption result
         ((octets : List ℕ) → IsNamed oid.now extension.entry.is.0 octets → ⊥)

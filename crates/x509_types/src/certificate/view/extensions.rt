@@ -85,6 +85,7 @@ impl<'a> CertView<'a> {
     }
 
     /// The element in the first extension with this OID, given as contents octets.
+    #[inline(always)]
     fn first_value(&self, oid: &[u8]) -> Option<Elem<'a>>
         ensures { MatchOption result
             ((element : DerElement) → IsFirstValue (view_elements self.now) oid.now element → ⊥)
@@ -96,6 +97,7 @@ impl<'a> CertView<'a> {
     }
 
     /// The elements in the list of extensions, if it is present.
+    #[inline(always)]
     fn extension_kids(&self) -> Option<Kids<'a>>
         ensures { MatchOption result
             (extensions_of (view_elements self.now) ≡ [])
