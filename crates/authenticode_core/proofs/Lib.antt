@@ -35,7 +35,6 @@ pub mod WalkedAll
 pub mod OtherSteps
 pub mod LinkedPlaces
 pub mod LastAuthority
-pub mod KeptOctets
 pub mod BasicOrder
 pub mod SignerOrder
 pub mod OneSignerRule

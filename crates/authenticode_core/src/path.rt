@@ -31,7 +31,7 @@ use x509_core::{Cert, CertError, DateCheck, Places, Window};
 pub(crate) fn kept(alloc: Global, named: &BagCertificate<'_>) -> Result<Cert, AllocError>
     ensures { IfOk result (λ cert. cert.elements ≡ view_elements named.now.certificate) }
 {
-    match Cert::from_der(alloc, named.elem.whole) {
+    match Cert::from_elem(alloc, named.elem) {
         Ok(cert) => Ok(cert),
         Err(_) => Err(AllocError),
     }
