@@ -4,13 +4,19 @@ ghost use Rattle.std.specs.Prelude.{◌≡◌, ◌↔◌, IfOk, IsTrue, bytes_eq
 ghost use Rattle.std.specs.Cmp.Lexicographic.{nat_list_eq_equiv};
 ghost use Rattle.std.specs.Cmp.{partial_equiv_from_equiv};
 
+use smallvec::SmallVec;
 use std::alloc::{AllocError, Global};
 use std::marker::Model;
 
-/// Owned octets. Contracts see the list of them.
+/// How many octets are stored in the value itself: enough for OIDs, numbers, key identifiers and
+/// most texts in names.
+const MOST_INLINE: usize = 24;
+
+/// Owned octets. Contracts see the list of them. Few are stored in the value itself, without
+/// allocating.
 #[derive(Debug, Drop)]
 pub struct Octets {
-    bytes: Vec<u8>,
+    bytes: SmallVec<u8, MOST_INLINE>,
 }
 
 impl Model for Octets {
@@ -27,7 +33,7 @@ impl Octets {
         ensures { IfOk result (λ octets. octets ≡ bytes.now) }
     {
         Ok(Octets {
-            bytes: Vec::from_slice(alloc, bytes)?,
+            bytes: SmallVec::from_slice(alloc, bytes)?,
         })
     }
 
@@ -35,7 +41,7 @@ impl Octets {
     pub fn as_slice(&self) -> &[u8]
         ensures { result.now ≡ self.now }
     {
-        &self.bytes
+        self.bytes.as_slice()
     }
 
     /// A copy of the value.
@@ -48,16 +54,18 @@ impl Octets {
     /// Overwrites the octets with zeros before they are freed, for secrets.
     pub fn overwrite(self) {
         let Octets { mut bytes } = self;
-        bytes.fill(0);
+        bytes.as_mut_slice().fill(0);
     }
 }
 
-/// Takes the vector's octets without copying them.
+/// Takes the vector's octets; only few are copied.
 impl From<Vec<u8>> for Octets {
     ghost from_gives = { λ bytes octets. octets ≡ bytes.items };
 
     fn from(bytes: Vec<u8>) -> Octets {
-        Octets { bytes }
+        Octets {
+            bytes: SmallVec::from_vec(bytes),
+        }
     }
 }
 
