@@ -171,7 +171,7 @@ def file_of(chance, kind, base):
         octets = with_entry(chance, base, signature_file(restructured(chance, der))) if deep else base
     else:
         octets = wrapped(kind, restructured(chance, base) if deep else base)
-    known = [] if kind == "pem" else list(heads(octets, begin if kind == "der" else begin + 8, len(octets)))
+    known = list(heads(octets, begin if kind == "der" else begin + 8, len(octets)))
     for _ in range(changes):
         octets = damaged(chance, octets, known)
     if kind == "signature" and chance.random() < 0.5:

@@ -13,7 +13,7 @@ The first prints `tools/cases/signed_programs.txt` anew: openssl (3.0 or later) 
 certificates of `KINDS`, and osslsigncode (2.6 or later) signs a program with each
 set of words in `PROGRAMS`; the stamps are its own, at a given time, or those
 of a server here that asks `openssl ts`, at the time when it is run.  A row is a
-label, the signed program in base64, and the rows of the table that `verdict_table`
+label, the signed program in base64, and the rows of the table that `asked_signatures`
 has openssl find for its signature, bars between; the first row is the root.
 
 The second compares the answer to each of `CASES`, by `check_judge`, with that of
