@@ -1,5 +1,6 @@
 //! The callers in the READMEs of the libraries, a module each.
 
+mod of_ask_program;
 mod of_asn1_types;
 mod of_authenticode_core;
 mod of_authenticode_parts;
@@ -18,6 +19,7 @@ mod of_pe_image;
 mod of_picky_check;
 mod of_private_key_types;
 mod of_program_frame;
+mod of_question_walk;
 mod of_request_types;
 mod of_sig_core;
 mod of_signature_questions;
