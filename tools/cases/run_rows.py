@@ -14,6 +14,7 @@ from cases.check_parts import DAY, LATER, S, T, I
 from cases.first_path import FILE_HASH, signature_file, verdict_line
 from cases.list_rows import list_with
 from golden.xgolden_pe_image import made
+from judges import demo_maker
 
 TOO_LONG, BAD_TABLE = (6, ""), (3, "")
 # The octets that a call of the shelf returns at the most, and those of the longest file.
@@ -83,6 +84,7 @@ def commands():
     yield of_signature(("check", "s", "t", HASH, LATER), EXCUSED, "accepted signer=0 path=1 excuse=bag", {})
     yield of_signature(("check", "s", "t", HASH, DAY, "--list", "l", "0"), CHAIN, "accepted signer=0 path=1 excuse=none", {"l": NO_LIST}, l=list_with(b"R"))
     yield of_chain()
+    yield Command("picky", ("demo", "2"), {}, demo_maker.line(2), {})
     yield of_image()
     yield of_image("--list", "l", "0", l=list_with(b"A"))
     yield of_anchor([ROOT], LEAF, [CROSS, INT], "anchored pool=1 anchor=0")

@@ -49,10 +49,12 @@ def bases():
 
 def places(element, place=()):
     """The place of each element in an element, by the numbers of the kids on the way down."""
-    if isinstance(element, Constructed):
-        for number, kid in enumerate(element.kids):
-            yield (*place, number)
-            yield from places(kid, (*place, number))
+    found = []
+    for number, kid in enumerate(element.kids if isinstance(element, Constructed) else ()):
+        found.append((*place, number))
+        if isinstance(kid, Constructed):
+            found.extend(places(kid, found[-1]))
+    return found
 
 
 def at(element, place):
@@ -76,9 +78,12 @@ def with_other_octet(chance, element):
     return Primitive(element.tag, with_octet(element.contents, place, chance.randrange(256)))
 
 
-def mutation(chance, element):
-    """The element with one of its own left out, repeated, exchanged for another one, put behind another one, or changed."""
-    known = list(places(element))
+def mutation(chance, element, known=None):
+    """The element with one of its own left out, repeated, exchanged for another one, put behind another one, or changed.
+
+    `known` has the places in it, where they are at hand.
+    """
+    known = places(element) if known is None else known
     if not known:
         return element
     place = chance.choice(known)

@@ -236,7 +236,7 @@ def with_length(chance, octets):
     if known is None:
         return with_octets(chance, octets)
     start, element = known
-    one = write(at(element, chance.choice(places_of(octets))))
+    one = write(at(element, chance.choice(places_of(octets) or [()])))
     place = octets.find(one, start)
     if place < 0 or len(one) < 2:
         return with_octets(chance, octets)
@@ -248,12 +248,12 @@ def with_length(chance, octets):
 
 @cache
 def places_of(octets):
-    return list(places(element_in(octets)[1])) or [()]
+    """The places in the value of a file that the tools know."""
+    return places(element_in(octets)[1])
 
 
-def nested(chance, element):
+def nested(chance, element, known):
     """An element inside another of its own kind, once or many times."""
-    known = list(places(element))
     if not known:
         return element
     place = chance.choice(known)
@@ -269,8 +269,9 @@ def with_elements(chance, octets):
     if known is None:
         return with_octets(chance, octets)
     start, element = known
-    for _ in range(chance.choice((1, 1, 2, 3))):
-        element = nested(chance, element) if chance.random() < 0.25 else mutation(chance, element)
+    for number in range(chance.choice((1, 1, 2, 3))):
+        among = places(element) if number else places_of(octets)
+        element = (nested if chance.random() < 0.25 else mutation)(chance, element, among)
     try:
         value = write(element)
     except NotWritable:

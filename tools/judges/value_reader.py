@@ -17,10 +17,13 @@ octets; of anything else `#` and the element in hexadecimal.
 """
 
 from datetime import datetime
+from functools import lru_cache
 
 from judges.der_reader import Constructed, Malformed, Primitive, read_exact, write
 
 LIMIT = 1 << 128
+# Elements that are read again and again, as those of one certificate in many files, are read once.
+kept = lru_cache(4096)
 
 WORDS = {
     "2.5.4.3": "CN",
@@ -80,6 +83,7 @@ def kids(element, tag):
 
 # Values by their contents octets.
 
+@kept
 def dotted(octets):
     """The text of an OBJECT IDENTIFIER's contents (X.690 8.19)."""
     numbers, number, begins = [], 0, True
@@ -194,6 +198,7 @@ def common_name(element):
     return "none"
 
 
+@kept
 def name(element):
     for one in kids(element, 0x30):
         members(one)
@@ -259,6 +264,7 @@ def private_key_info(element):
     return f"V{number[0] + 1} {shown} {kind} {private} {attributes} {public}"
 
 
+@kept
 def key(element):
     """A SubjectPublicKeyInfo of a kind that is known, with the parameters of its kind."""
     fields = kids(element, 0x30)
@@ -298,6 +304,7 @@ def time(element):
     return f"{form} {year:04}-{moment:%m-%d %H:%M:%S}"
 
 
+@kept
 def validity(element):
     times = kids(element, 0x30)
     need(len(times) == 2)
@@ -444,6 +451,7 @@ def alternative_names(kind, octets):
         return f"Raw {word(octets)}"
 
 
+@kept
 def extension(element):
     fields = kids(element, 0x30)
     need(2 <= len(fields) <= 3)
@@ -472,6 +480,7 @@ def whole(value):
     return "none" if value is None else word(write(value))
 
 
+@kept
 def certificate(element):
     """A Certificate (RFC 5280 4.1), field by field, and what is written for it."""
     parts = kids(element, 0x30)

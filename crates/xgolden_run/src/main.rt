@@ -18,6 +18,7 @@
 #![tactic(auto)]
 
 use anyhow::{Context, Result, bail};
+use demo_core::count_of;
 use program_frame::{MemShelf, MemSink};
 use std::alloc::Global;
 use std::env;
@@ -54,7 +55,10 @@ fn status_of(
     sink: &mut MemSink,
 ) -> Result<u8> {
     match program {
-        "picky" => Ok(picky_check::run(alloc, words, shelf, sink)),
+        "picky" => match count_of(words) {
+            Some(count) => Ok(demo_core::run(alloc, count, sink)),
+            None => Ok(picky_check::run(alloc, words, shelf, sink)),
+        },
         "picky_pe" => Ok(pe_image::run(alloc, words, shelf, sink)),
         "picky_anchor" => Ok(trust_anchors::run(alloc, words, shelf, sink)),
         "picky_ask" => Ok(ask_program::run(alloc, words, shelf, sink)),

@@ -2,7 +2,7 @@
 
 use hex::FromHexError;
 use pe_image::run;
-use program_frame::{MemShelf, MemSink};
+use program_frame::{MemShelf, MemSink, OUT_OF_MEMORY};
 use std::alloc::{AllocError, Global};
 
 /// A program of zeros but for its headers, with a signature over its digest: 774 octets. The
@@ -52,7 +52,7 @@ pub(crate) fn shelf_of(
 }
 
 /// Whether a run with a shelf ends with a status, and has written this to a sink with this much
-/// room.
+/// room. A run that is out of memory and has written nothing is an error.
 pub(crate) fn is_answered(
     alloc: Global,
     words: &[&str],
@@ -64,6 +64,9 @@ pub(crate) fn is_answered(
     let words = owned(alloc, words)?;
     let mut sink = MemSink::with_room(alloc, room)?;
     let got = run(alloc, &words, shelf, &mut sink);
+    if got == OUT_OF_MEMORY && sink.held().is_empty() {
+        return Err(AllocError);
+    }
     Ok(got == status && sink.held() == written)
 }
 

@@ -1,7 +1,7 @@
 //! An accepted signature, as `tools/cases/first_path.py` writes it, and runs on it.
 
 use hex::FromHexError;
-use picky_check::{MemShelf, MemSink, run};
+use picky_check::{MemShelf, MemSink, OUT_OF_MEMORY, run};
 use std::alloc::{AllocError, Global};
 
 /// The SHA-256 of `abc`.
@@ -73,7 +73,7 @@ pub(crate) fn shelf_of(
 }
 
 /// Whether a run with a shelf ends with a status, and has written this to a sink with this much
-/// room.
+/// room. A run that is out of memory and has written nothing is an error.
 pub(crate) fn is_answered(
     alloc: Global,
     words: &[&str],
@@ -85,6 +85,9 @@ pub(crate) fn is_answered(
     let words = owned(alloc, words)?;
     let mut sink = MemSink::with_room(alloc, room)?;
     let got = run(alloc, &words, shelf, &mut sink);
+    if got == OUT_OF_MEMORY && sink.held().is_empty() {
+        return Err(AllocError);
+    }
     Ok(got == status && sink.held() == written)
 }
 
