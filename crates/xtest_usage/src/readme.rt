@@ -20,6 +20,7 @@ mod of_picky_check;
 mod of_private_key_types;
 mod of_program_frame;
 mod of_question_walk;
+mod of_register_text;
 mod of_request_types;
 mod of_sig_core;
 mod of_signature_questions;
