@@ -515,6 +515,26 @@ class PrintingTest(unittest.TestCase):
                 with self.assertRaises(NotChecked):
                     Tried().run("picky_pe", [file], "picky_pe")
 
+    def test_tried_together(self):
+        """By a stub of `rt`: expected calls are made in one, with their files in hexadecimal, and another call by itself."""
+        with TemporaryDirectory() as folder:
+            file, rt, rows = Path(folder, "file"), Path(folder, "rt"), Path(folder, "rows")
+            file.write_bytes(b"\1\2")
+            ended = "echo 'run=ended status=0 runners=1 proved=no' >&2\n"
+            calls = [("picky_pe", [file, "x"]), ("picky_anchor", ["3", file])]
+            with patch.dict(os.environ, {"PATH": folder + os.pathsep + os.environ["PATH"]}):
+                rt.write_text(f"#!/bin/sh\ncp \"${{5#*=}}\" {rows}\nprintf '0 accepted\\n2 \\n'\n{ended}")
+                rt.chmod(0o755)
+                programs = Tried()
+                programs.expect(calls)
+                self.assertEqual(rows.read_text(), "picky_pe 65536 - f0=0102 f0 x\npicky_anchor 65536 - f1=0102 3 f1\n")
+                rt.write_text(f"#!/bin/sh\necho alone\n{ended}")
+                self.assertEqual([programs.run(*call, "")[2:] for call in calls], [(0, "accepted\n"), (2, "")])
+                file.write_bytes(b"\3")
+                self.assertEqual(programs.run(*calls[0], "")[2:], (0, "alone\n"))
+                with self.assertRaises(NotChecked):
+                    programs.expect(calls)
+
     def test_other_files(self):
         for octets, what in (
             (b"\x7fELF" + bytes(60), "program of Linux"), (b"PK\x03\x04" + bytes(60), "zip archive"), (b"MSCF" + bytes(60), "cabinet"),

@@ -77,15 +77,21 @@ class Files(NamedTuple):
         return [self.of(f"{name}{place}.der", der) for place, der in enumerate(ders)]
 
 
-def find(programs, files, table, date, certificate, pool, roots):
-    """The shortest path to one of the roots, of which each has its certificate."""
+def calls(files, table, date, certificate, pool, roots):
+    """The roots of each call, eight at a time, and the words for it."""
     checked, = files.certificates("checked", [certificate.der])
     others = files.certificates("pool", [one.der for one in pool])
-    answers, best = [], None
     for begin in range(0, len(roots), MOST_ANCHORS):
         part = roots[begin:begin + MOST_ANCHORS]
-        anchors = files.certificates("root", [root.der for root in part])
-        answer = programs.run("picky_anchor", [table, PURPOSE, date, len(part), *anchors, checked, *others], "picky_anchor")
+        anchors = files.certificates(f"root{begin}_", [root.der for root in part])
+        yield part, [table, PURPOSE, date, len(part), *anchors, checked, *others]
+
+
+def find(programs, files, table, date, certificate, pool, roots):
+    """The shortest path to one of the roots, of which each has its certificate."""
+    answers, best = [], None
+    for part, words in calls(files, table, date, certificate, pool, roots):
+        answer = programs.run("picky_anchor", words, "picky_anchor")
         path = path_in(answer, certificate, pool, part)
         if best is None or path is not None and (best[1] is None or len(path.parents) < len(best[1].parents)):
             best = answer, path

@@ -91,6 +91,7 @@ class Check:
         index = subject.signature.signers_index()
         pool, roots = self.others(subject, index)
         table = self.table_of(subject, index, pool, roots)
+        self.expect_answers(subject, index, pool, roots, table, date)
         path = self.ask_path(subject, index, pool, roots, table, date)
         signed = self.ask_signature(subject, index, path, table, date)
         self.decide(subject, signed, path, (index, pool, roots, table, date))
@@ -134,12 +135,15 @@ class Check:
         """The program that decides on the signature."""
         return "picky_pe" if self.question.digest is None else "picky check"
 
+    def call(self, file, table, date):
+        """That program, and its words for a file."""
+        if self.question.digest is not None:
+            return "picky", ["check", file, table, self.question.digest, date, NO_CHAIN]
+        return "picky_pe", [file, table, date, NO_CHAIN]
+
     def ask(self, file, table, date):
         """What that program answers of a file."""
-        if self.question.digest is not None:
-            answer = self.programs.run("picky", ["check", file, table, self.question.digest, date, NO_CHAIN], f"picky check {NO_CHAIN}")
-        else:
-            answer = self.programs.run("picky_pe", [file, table, date, NO_CHAIN], f"picky_pe {NO_CHAIN}")
+        answer = self.programs.run(*self.call(file, table, date), f"{self.decider()} {NO_CHAIN}")
         self.report.answered(answer, "is the file signed by the signer?", first=True)
         return answer
 
@@ -218,6 +222,14 @@ class Check:
         self.report.signatures = table.counts
         self.report.notes += [f"in the table: {text.clean(one)}" for one in table.lacking]
         return self.files.of("table.txt", table.text.encode("ascii"))
+
+    def expect_answers(self, subject, index, pool, roots, table, date):
+        """Says which answers are needed: on the path, and on the signature unless the path has another order of certificates."""
+        if index is None or not roots:
+            return
+        self.question.progress(self.programs.progress)
+        paths = anchors.calls(self.files, table, date, subject.signature.certificates[index], pool, roots)
+        self.programs.expect([*(("picky_anchor", words) for _, words in paths), self.call(self.file, table, date)])
 
     def ask_signature(self, subject, index, path, table, date):
         """The answer on the signature; where it accepts, it is about the signer and the digest that are shown here."""

@@ -10,6 +10,7 @@ import re
 import subprocess
 from pathlib import Path
 from shutil import which
+from tempfile import TemporaryDirectory
 from typing import NamedTuple
 
 from common import command, folders
@@ -33,6 +34,8 @@ STATUSES = {
 SECONDS = 120
 # What `rt try` says last of a program that ended.
 TRIED = re.compile(rb"^run=ended status=(\d+) .*proved=no$", re.MULTILINE)
+# More octets than any line of a program has.
+ROOM = 65_536
 VARIABLE = "PICKY_PROGRAMS"
 
 
@@ -87,6 +90,7 @@ class Programs:
     # Whether they were proved when they were built, and whether calls are quick enough to look for a reason.
     proved = True
     quick = True
+    progress = "the programs are called"
 
     def __init__(self, folder=None):
         self.folder = folder or os.environ.get(VARIABLE)
@@ -101,8 +105,8 @@ class Programs:
             if Path(place).is_file() and os.access(place, os.X_OK):
                 return Path(place).resolve()
         raise NotThere(
-            f"the program {program} isn't built: `.ci/run` builds all of them, `rt run` in crates/{program} that one; "
-            f"or name the folder that has it, by --programs FOLDER or {VARIABLE}")
+            f"the program {program} isn't built: --try runs it from its sources, unproved, in a minute or two; `.ci/run` builds all of them, "
+            f"`rt run` in crates/{program} that one; or name the folder that has it, by --programs FOLDER or {VARIABLE}")
 
     def run(self, program, words, shown):
         """What a program answers to these words."""
@@ -113,23 +117,65 @@ class Programs:
             raise NotChecked(command.CANT, f"{program} didn't end within {SECONDS} seconds") from late
         return Answer(program, shown, done.returncode, done.stdout.decode("utf-8", "replace"))
 
+    def expect(self, calls):
+        """Takes note of calls that are likely to be made, each a program and its words; a built program answers at once."""
+
 
 class Tried(Programs):
-    """The programs run from their sources by `rt try`, which compiles them anew at each call and proves nothing."""
+    """The programs run from their sources by `rt try`, which compiles them anew at each call and proves nothing.
+
+    Calls that are expected are made in one, by `xgolden_run`, which calls the `run` of each program over files in memory.
+    """
 
     proved = False
     quick = False
+    progress = "`rt try` compiles the programs and calls them, in a minute or two"
+
+    def __init__(self):
+        super().__init__()
+        self.answers = {}
+
+    def expect(self, calls):
+        """Makes the calls together, and keeps what is answered."""
+        with TemporaryDirectory() as folder:
+            rows = Path(folder, "rows")
+            rows.write_text("".join(f"{row_of(program, words)}\n" for program, words in calls), encoding="ascii")
+            status, output = tried("xgolden_run", [rows])
+        lines = output.splitlines()
+        if status or len(lines) != len(calls):
+            raise NotChecked(command.CANT, "`rt try` in crates/xgolden_run doesn't run the programs to their end")
+        for (program, words), line in zip(calls, lines):
+            status, _, line = line.partition(" ")
+            self.answers[call_of(program, words)] = int(status), f"{line}\n" if line else ""
 
     def run(self, program, words, shown):
-        """The same answer; files are handed to `rt try` by their names."""
-        files = {word: f"file{place}" for place, word in enumerate(words) if isinstance(word, Path)}
-        data = [part for file, name in files.items() for part in ("--data", f"{name}={file}")]
-        called = ["rt", "try", *data, "--", *(files.get(word, str(word)) for word in words)]
-        try:
-            done = subprocess.run(called, cwd=folders.CRATES / program, stdin=subprocess.DEVNULL, capture_output=True)
-        except FileNotFoundError as refusal:
-            raise NotThere("the command rt of the kit isn't there, which --try needs") from refusal
-        ended = TRIED.search(done.stderr)
-        if not ended:
-            raise NotChecked(command.CANT, f"`rt try` in crates/{program} doesn't run the program to its end")
-        return Answer(program, f"{shown} (by rt try)", int(ended[1]), done.stdout.decode("utf-8", "replace"))
+        """The same answer, which may have been expected."""
+        status, output = self.answers.get(call_of(program, words)) or tried(program, words)
+        return Answer(program, f"{shown} (by rt try)", status, output)
+
+
+def call_of(program, words):
+    """A call, with the octets of its files."""
+    return program, *(word.read_bytes() if isinstance(word, Path) else str(word) for word in words)
+
+
+def row_of(program, words):
+    """A call as `xgolden_run` takes it: the program, room for a line, no call that fails, the files and the words."""
+    names = {word: f"f{place}" for place, word in enumerate(words) if isinstance(word, Path)}
+    files = ",".join(f"{name}={file.read_bytes().hex() or '-'}" for file, name in names.items())
+    return " ".join((program, str(ROOM), "-", files or "-", *(names.get(word, str(word)) for word in words)))
+
+
+def tried(crate, words):
+    """The status and the output of a program by `rt try`; files are handed to it by their names."""
+    files = {word: f"file{place}" for place, word in enumerate(words) if isinstance(word, Path)}
+    data = [part for file, name in files.items() for part in ("--data", f"{name}={file}")]
+    called = ["rt", "try", "--steps", "1", *data, "--", *(files.get(word, str(word)) for word in words)]
+    try:
+        done = subprocess.run(called, cwd=folders.CRATES / crate, stdin=subprocess.DEVNULL, capture_output=True)
+    except FileNotFoundError as refusal:
+        raise NotThere("the command rt of the kit isn't there, which --try needs") from refusal
+    ended = TRIED.search(done.stderr)
+    if not ended:
+        raise NotChecked(command.CANT, f"`rt try` in crates/{crate} doesn't run the program to its end")
+    return int(ended[1]), done.stdout.decode("utf-8", "replace")
