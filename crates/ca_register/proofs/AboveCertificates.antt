@@ -1,7 +1,7 @@
 -- The certificates that the iterator walks to are those of the ancestors.
 use Rattle.std.proofs.Common.{◌≡◌, ◌<◌, ◌≤◌, ℕ, zero, suc, List, [], ◌∷◌, length, Option, Some, None, refl, sym, ap, subst, ◌∙◌, arith}
 use Rattle.std.specs.List.{slice_get}
-use Rattle.x509_core.specs.History.{AreAncestors, IsOrdered}
+use Rattle.x509_core.specs.History.{AreAncestors, IsOrdered, IssuingStep}
 use Rattle.x509_core.specs.Issued.{AreCertsAt, HasCert}
 use Rattle.x509_core.specs.KeptCertificate.{KeptCertificate}
 use Rattle.x509_core.proofs.Histories.{item_at}
@@ -23,7 +23,7 @@ module _ (entries : List Entry) (certificates : List KeptCertificate) (ordered :
   above_are place [] entry most are has enough =
       let of = entry_of entries place are.1.step are.1.is in
       let same : of.entry ≡ entry = same_some of.entry entry (sym of.has ∙ has) in
-      let none : entry.issuer ≡ None = ap (λ (e : Entry). e.issuer) (sym same) ∙ ap (λ s. s.issuer) of.is ∙ are.1.unissued in
+      let none : entry.issuer ≡ None = ap (λ (e : Entry). e.issuer) (sym same) ∙ ap (λ (s : IssuingStep). s.issuer) of.is ∙ are.1.unissued in
       subst (λ (o : Option ℕ). AreCertsAt certificates [] (Above most o)) (sym none) (no_more most)
     where
       no_more : (m : ℕ) → AreCertsAt certificates [] (Above m None)
@@ -33,7 +33,7 @@ module _ (entries : List Entry) (certificates : List KeptCertificate) (ordered :
   above_are place (issuer ∷ ancestors) entry (suc most) are has enough =
       let of = entry_of entries place are.0.0.step are.0.0.is in
       let same : of.entry ≡ entry = same_some of.entry entry (sym of.has ∙ has) in
-      let issued : entry.issuer ≡ Some issuer = ap (λ (e : Entry). e.issuer) (sym same) ∙ ap (λ s. s.issuer) of.is ∙ are.0.0.issued in
+      let issued : entry.issuer ≡ Some issuer = ap (λ (e : Entry). e.issuer) (sym same) ∙ ap (λ (s : IssuingStep). s.issuer) of.is ∙ are.0.0.issued in
       let earlier = ordered place issuer are.0.0 in
       let within = here_within (history_of entries) issuer ancestors (are.0.1, are.1) in
       let cert = item_at certificates issuer (omega (arith, within, all)) in

@@ -17,7 +17,7 @@ use Rattle.key_core.specs.declared.signature_error.SignatureError.{SignatureErro
 use Rattle.key_core.proofs.SignatureIdentifiers.{same_algorithm}
 use Rattle.key_core.proofs.Verifications.{accepted_is_met}
 use Rattle.name_types.specs.Name.{name}
-use Rattle.names_core.specs.Names.{sets_of}
+use Rattle.names_core.specs.Names.{name_of_sets, sets_of}
 use Rattle.x509_types.specs.CertificateElements.{AreCertificateFields, CertificateElements}
 use Rattle.x509_types.specs.CertificateFields.{kid}
 use Rattle.x509_types.specs.ExtensionParts.{HasAuthorityKey, HasCa, HasPathLength, HasSubjectKey}
@@ -25,6 +25,7 @@ use Rattle.x509_types.specs.FirstOfValue.{extensions_in}
 use Rattle.x509_types.specs.declared.extension.Extension.{Extension}
 use Rattle.x509_types.specs.declared.extension.view.ExtensionView.TheVariants as views
 use Rattle.std.proofs.Math.Logic.{∥∥₁_elim}
+use Rattle.std.specs.Borrow.{Bor}
 use Rattle.std.specs.Coded.{Coded-set}
 use Rattle.der_core.specs.Facts.Codes.{coded_element}
 use Rattle.x509_core.specs.Distinct.{AreDistinct}
@@ -41,15 +42,14 @@ use Rattle.x509_core.proofs.SignedParts.{one_algorithm, one_key}
 use Rattle.x509_core.proofs.Validity.{same_some}
 use Rattle.x509_issuing.specs.Building.{IsBuilt}
 use Rattle.x509_issuing.specs.BuiltCertificate.{IsIdentified, authority_of}
+use Rattle.x509_issuing.specs.IssuedUnder.{IsIssuedUnder}
 use Rattle.x509_issuing.specs.MadeExtensions.{constraints_of}
 use Rattle.x509_issuing.specs.declared.builder.CertificateBuilder.{CertificateBuilder}
 use Rattle.x509_issuing.specs.declared.builder.IssuerInfos.{IssuerInfos}
-use Rattle.x509_issuing.specs.declared.builder.SubjectInfos.{SubjectInfos}
 use Rattle.x509_issuing.proofs.FirstExtensions.{first_once}
 use Rattle.ca_register.specs.Entries.{step_of}
-use Rattle.ca_register.specs.Granting.{IsChildBuilder, IsGranted}
+use Rattle.ca_register.specs.Granting.{IsGranted}
 use Rattle.ca_register.specs.declared.entry.Entry.{Entry}
-use Rattle.ca_register.specs.declared.entry.Grant.{Grant}
 
 same_constraints : (a b : BasicConstraints) → views.BasicConstraints a ≡ views.BasicConstraints b → a ≡ b
 same_constraints a b e = cc
@@ -101,23 +101,28 @@ module _ (judge : Judge) (signs : Signs) (pair : Pair) (b : CertificateBuilder) 
     distinct = distinct;
   }
 
-  module _ (grant : Grant) (subject : SubjectInfos) (inherits : Bool) (parent : KeptCertificate) (key : PrivateKey) (by : IsChildBuilder grant subject inherits parent key b)
-      (own : List ℕ) (had : HasSubjectKey parent.elements own) (authority : b.authority_key_identifier ≡ Some own) (signed : IsSignedBy judge parent.elements cert.elements) where
-    same_issuer : by.issuer ≡ is.issuer
-    same_issuer = same_some by.issuer is.issuer (sym by.given ∙ is.given)
+  module _ (parent : KeptCertificate) (key : Bor PrivateKey) (before : CertificateBuilder) (under : IsIssuedUnder parent key before b) (own : List ℕ) (had : HasSubjectKey parent.elements own) (authority : b.authority_key_identifier ≡ Some own)
+      (signed : IsSignedBy judge parent.elements cert.elements) where
+    abbrev Infos : IssuerInfos
+    Infos = record { name = name_of_sets parent.certificate.tbs_certificate.subject; key = key; self_signed = false }
+
+    given : b.issuer_infos ≡ Some Infos
+    given = ap (λ (x : CertificateBuilder). x.issuer_infos) under.is
+
+    same_issuer : Infos ≡ is.issuer
+    same_issuer = same_some Infos is.issuer (sym given ∙ is.given)
 
     issuer_named : sets_of is.issuer.name ≡ parent.certificate.tbs_certificate.subject
-    issuer_named = subst (λ (i : IssuerInfos). sets_of i.name ≡ parent.certificate.tbs_certificate.subject) same_issuer by.named
+    issuer_named = subst (λ (i : IssuerInfos). sets_of i.name ≡ parent.certificate.tbs_certificate.subject) same_issuer refl
 
     agreed : AgreeByName parent.elements cert.elements
     agreed = are.tbs.issuer ∙ ap name is.made.made.tbs.by.issued_by.named ∙ ap name issuer_named ∙ sym (subject_is parent)
 
-    identified_issuer : by.issuer ≡ identified.issuer
-    identified_issuer = same_some by.issuer identified.issuer (sym by.given ∙ identified.given)
+    other : identified.issuer.self_signed ≡ false
+    other = subst (λ (i : IssuerInfos). i.self_signed ≡ false) (same_some Infos identified.issuer (sym given ∙ identified.given)) refl
 
     named : HasAuthorityKey cert.elements own
     named =
-        let other = subst (λ (i : IssuerInfos). i.self_signed ≡ false) identified_issuer by.other in
         (said.authority_key own).1
         (subst (λ (o : Option (List ℕ)). NamesKey (extensions_in cert.certificate.tbs_certificate.extensions) (authority_of false o identified.own)) authority
         (subst (λ (flag : Bool). NamesKey (extensions_in cert.certificate.tbs_certificate.extensions) (authority_of flag b.authority_key_identifier identified.own)) other identified.authority))

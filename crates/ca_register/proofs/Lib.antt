@@ -5,4 +5,5 @@ mod Registers
 mod Walking
 mod AboveCertificates
 mod Children
+mod Builders
 mod Usability

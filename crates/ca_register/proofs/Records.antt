@@ -28,7 +28,7 @@ pub step_at : (entries : List Entry) (place : ℕ) (entry : Entry) → HasEntry 
 step_at entries place entry has = slice_get-map step_of entries place ∙ ap (option_map step_of) has
 
 pub as_many : (entries : List Entry) → length (history_of entries) ≡ length entries
-as_many entries = length-map step_of entries
+as_many entries = length-map entries step_of
 
 pub issued_at : (entries : List Entry) (place issuer : ℕ) (entry : Entry) → HasEntry entries place entry → entry.issuer ≡ Some issuer → HasIssuer (history_of entries) place issuer
 issued_at entries place issuer entry has issued = record { step = step_of entry; is = step_at entries place entry has; issued = issued }

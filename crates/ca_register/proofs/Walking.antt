@@ -53,7 +53,9 @@ module _ (entries : List Entry) (issuer : ℕ) where
     found_above ancestors are = next_on_line (history_of entries) issuer ancestors number at above are (so_far ancestors are).0 (issued_at entries at above entry has issued)
 
     pub deep_more : (IsShortAt above (number + 1) → ⊥) → IsDeepSoFar (number + 1) above
-    deep_more enough ancestors are = (subst (λ (n : ℕ). slice_get (issuer ∷ ancestors) n ≡ Some above) (omega arith) (found_above ancestors are), none)
+    deep_more enough ancestors are =
+        let next : suc number ≡ number + 1 = omega arith in
+        (subst (λ (n : ℕ). slice_get (issuer ∷ ancestors) n ≡ Some above) next (found_above ancestors are), none)
       where
         here : (nearer : ℕ) → nearer ≡ suc number → IsTooShort entries (issuer ∷ ancestors) nearer → ⊥
         here nearer same short =
@@ -69,12 +71,13 @@ module _ (entries : List Entry) (issuer : ℕ) where
     pub too_short : IsOrdered (history_of entries) → issuer < length entries → IsShortAt above (number + 1) → IsFirstTooShort entries issuer (number + 1)
     too_short ordered within short =
         let line = line_of (history_of entries) issuer ordered (omega (arith, within, as_many entries)) in
+        let next : suc number ≡ number + 1 = omega arith in
         record {
           line = issuer ∷ line.0;
           above = record { ancestors = line.0; is = refl; are = line.1 };
           short = record {
             place = above;
-            at = subst (λ (n : ℕ). slice_get (issuer ∷ line.0) n ≡ Some above) (omega arith) (found_above line.0 line.1);
+            at = subst (λ (n : ℕ). slice_get (issuer ∷ line.0) n ≡ Some above) next (found_above line.0 line.1);
             entry = short.0;
             has = short.1;
             limit = short.2.0;
@@ -114,11 +117,11 @@ module _ (Beats : GeneralizedTime → GeneralizedTime → Type 0) (moment_of : E
     best = entry;
     among = record { index = 0; place = place; at = refl; has = has };
     is = refl;
-    none = λ index p other few at there. none index p other (omega (arith, few)) at there;
+    none = λ index p other few at there. first_alone index p other (omega (arith, few)) at there;
   }
     where
-      none : (index p : ℕ) (other : Entry) → index ≡ 0 → slice_get (place ∷ ancestors) index ≡ Some p → HasEntry entries p other → Beats (moment_of entry) (moment_of other) → ⊥
-      none index p other first at there beats =
+      first_alone : (index p : ℕ) (other : Entry) → index ≡ 0 → slice_get (place ∷ ancestors) index ≡ Some p → HasEntry entries p other → Beats (moment_of entry) (moment_of other) → ⊥
+      first_alone index p other first at there beats =
           let same : place ≡ p = same_some place p (ap (slice_get (place ∷ ancestors)) (sym first) ∙ at) in
           let one = same_entry place entry other has (subst (λ (i : ℕ). HasEntry entries i other) (sym same) there) in
           never (moment_of entry) (subst (λ (e : Entry). Beats (moment_of entry) (moment_of e)) (sym one) beats)
@@ -127,17 +130,18 @@ module _ (Beats : GeneralizedTime → GeneralizedTime → Type 0) (moment_of : E
       → (better ≡ moment) ⊎ (better ≡ moment_of entry) → (Beats better moment → ⊥) × (Beats better (moment_of entry) → ⊥) → Best places (suc number) better
   best_more places number above moment better entry so_far at has either beaten = by either
     where
-      none : (index place : ℕ) (other : Entry) → index ≤ suc number → slice_get places index ≡ Some place → HasEntry entries place other → Beats better (moment_of other) → ⊥
-      none index place other few there held = elim (cases_lt number index) [
+      unbeaten : (index place : ℕ) (other : Entry) → index ≤ suc number → slice_get places index ≡ Some place → HasEntry entries place other → Beats better (moment_of other) → ⊥
+      unbeaten index place other few there held = elim (cases_lt number index) [
         | inl last ↦
-            let same : above ≡ place = same_some above place (sym at ∙ ap (slice_get places) (omega (arith, last, few)) ∙ there) in
+            let here : suc number ≡ index = omega (arith, last, few) in
+            let same : above ≡ place = same_some above place (sym at ∙ ap (slice_get places) here ∙ there) in
             let one = same_entry above entry other has (subst (λ (i : ℕ). HasEntry entries i other) (sym same) held) in
             subst (λ (e : Entry). Beats better (moment_of e) → ⊥) one beaten.1
         | inr before ↦ over better moment (moment_of other) beaten.0 (so_far.none index place other before there held)
       ]
       by : (better ≡ moment) ⊎ (better ≡ moment_of entry) → Best places (suc number) better
-      by (inl old) = record { best = so_far.best; among = so_far.among; is = so_far.is ∙ sym old; none = none }
-      by (inr new) = record { best = entry; among = record { index = suc number; place = above; at = at; has = has }; is = sym new; none = none }
+      by (inl old) = record { best = so_far.best; among = so_far.among; is = so_far.is ∙ sym old; none = unbeaten }
+      by (inr new) = record { best = entry; among = record { index = suc number; place = above; at = at; has = has }; is = sym new; none = unbeaten }
 
 -- ---- the ends
 

@@ -7,7 +7,7 @@ ghost use Rattle.ca_register.specs.Entries.{history_of};
 ghost use Rattle.ca_register.specs.Issuing.{IsFirstTooShort, NoneTooShort, record_steps};
 ghost use Rattle.ca_register.specs.declared.error.IssueError.TheVariants as errors;
 
-use crate::entry::Entry;
+use crate::entry::{Entry, entry_at};
 use crate::error::IssueError;
 
 /// Checks that a certificate may be issued under the one at this place: there is one, else
@@ -42,9 +42,9 @@ fn expect_depth(entries: &[Entry], issuer: usize) -> Result<(), IssueError>
 {
     let mut at = issuer;
     let mut number = 0usize;
-    while let Some(above) = entries[at].issuer {
+    while let Some(above) = entry_at(entries, at).issuer {
         number += 1;
-        if is_too_short(&entries[above], number) {
+        if is_too_short(entry_at(entries, above), number) {
             return Err(IssueError::TooDeep { ancestor: number });
         }
         at = above;
@@ -53,9 +53,9 @@ fn expect_depth(entries: &[Entry], issuer: usize) -> Result<(), IssueError>
 }
 
 /// Whether the path length of the ancestor with this number is less than the number.
-fn is_too_short(entry: &Entry, number: usize) -> bool
+fn is_too_short(entry: Entry, number: usize) -> bool
     ensures { IsTrue result
-        ↔ ((limit : ℕ) × (entry.now.grant.path_length ≡ Some limit) × (limit < number)) }
+        ↔ ((limit : ℕ) × (entry.grant.path_length ≡ Some limit) × (limit < number)) }
 {
     match entry.grant.path_length {
         Some(limit) => usize::from(limit) < number,

@@ -1,5 +1,8 @@
 //! What a register records of a certificate.
 
+ghost use Rattle.std.specs.Prelude.{◌<◌, length};
+ghost use Rattle.ca_register.specs.Entries.{HasEntry};
+
 use names_core::UtcDate;
 
 /// What a certificate is issued for.
@@ -21,4 +24,12 @@ pub struct Entry {
     /// The place of the issuer, none of a root.
     pub issuer: Option<usize>,
     pub grant: Grant,
+}
+
+/// The entry at a place.
+pub(crate) fn entry_at(entries: &[Entry], place: usize) -> Entry
+    requires within { place < length entries.now }
+    ensures { HasEntry entries.now place result }
+{
+    entries[place]
 }

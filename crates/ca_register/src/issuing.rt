@@ -64,7 +64,8 @@ impl<S: Scheme + Drop> Register<S> {
         // A root that is no CA is refused as such, even when memory runs out.
         ensures recorded { grant.ca ≡ false → result ≡ Err errors.NotCa }
         ensures scheme { self.new.scheme ≡ self.old.scheme }
-        ensures err { OnErr result (self.new ≡ self.old) }
+        ensures err { OnErr result ((self.new.entries.items ≡ self.old.entries.items)
+            × (self.new.certificates.items ≡ self.old.certificates.items)) }
     {
         if !grant.ca {
             return Err(IssueError::NotCa);
@@ -115,7 +116,8 @@ impl<S: Scheme + Drop> Register<S> {
             parent.certificate.tbs_certificate.subject_public_key_info
             → result ≡ Err (errors.WrongKey source) → ⊥ }
         ensures scheme { self.new.scheme ≡ self.old.scheme }
-        ensures err { OnErr result (self.new ≡ self.old) }
+        ensures err { OnErr result ((self.new.entries.items ≡ self.old.entries.items)
+            × (self.new.certificates.items ≡ self.old.certificates.items)) }
     {
         expect_issuer(&self.entries, issuer)?;
         let builder = granted(self.alloc, grant).subject(name, public_key);
@@ -161,7 +163,8 @@ impl<S: Scheme + Drop> Register<S> {
             parent.certificate.tbs_certificate.subject_public_key_info
             → result ≡ Err (errors.WrongKey source) → ⊥ }
         ensures scheme { self.new.scheme ≡ self.old.scheme }
-        ensures err { OnErr result (self.new ≡ self.old) }
+        ensures err { OnErr result ((self.new.entries.items ≡ self.old.entries.items)
+            × (self.new.certificates.items ≡ self.old.certificates.items)) }
     {
         expect_issuer(&self.entries, issuer)?;
         let csr = read_request(self.alloc, request)?;
@@ -204,7 +207,8 @@ impl<S: Scheme + Drop> Register<S> {
             parent.certificate.tbs_certificate.subject_public_key_info
             → result ≡ Err (errors.WrongKey source) → ⊥ }
         ensures scheme { self.new.scheme ≡ self.old.scheme }
-        ensures err { OnErr result (self.new ≡ self.old) }
+        ensures err { OnErr result ((self.new.entries.items ≡ self.old.entries.items)
+            × (self.new.certificates.items ≡ self.old.certificates.items)) }
     {
         let parent = &self.certificates[issuer];
         let cert = issued_cert(self.alloc, parent, issuer_key, builder, word, &self.scheme)?;
@@ -251,6 +255,7 @@ fn issued_cert<'a, S: Scheme>(
     scheme: &S,
 ) -> Result<Cert, IssueError>
     requires unidentified { builder.authority_key_identifier ≡ None }
+    requires algorithm { builder.signature_hash_type ≡ algorithms.RsaPkcs1v15 hashes.SHA2_256 }
     ensures answer { (grant : Granted) (subject : Subject) (inherits : Bool)
         (certificates : List KeptCertificate) (issuer : ℕ) → IsFor grant subject inherits builder
         → HasCert certificates issuer parent.now → MatchResult result
@@ -292,10 +297,10 @@ fn signed_cert<S: Scheme>(
         (λ source. IsBadlySignedLink (S.judge scheme.now) parent.now.elements cert.elements
         (causes.Signature source)))) }
 {
-    let view = cert.view();
+    let fields = cert.view();
     let algorithm = SignatureAlgorithm::RsaPkcs1v15(HashAlgorithm::SHA2_256);
     let key = parent.public_key();
-    match algorithm.verify(alloc, key, view.tbs(), view.signature(), scheme) {
+    match algorithm.verify(alloc, key, fields.tbs(), fields.signature(), scheme) {
         Ok(()) => Ok(cert),
         Err(source) => Err(wrong_key(source)),
     }

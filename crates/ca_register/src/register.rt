@@ -1,12 +1,9 @@
 //! A register: its entries and its certificates.
 
 ghost use Rattle.std.specs.Prelude.{◌≡◌, ◌≤◌, ◌+◌, ◌++◌, ℕ, List, [], ◌∷◌, Some, length, IfOk, MatchOption, OnErr, OnOk};
-ghost use Rattle.key_core.specs.Verifying.{Judge};
 ghost use Rattle.x509_core.specs.Issued.{HasCert};
-ghost use Rattle.x509_core.specs.KeptCertificate.{KeptCertificate};
 ghost use Rattle.ca_register.specs.Authorities.{IsRegister};
 ghost use Rattle.ca_register.specs.Entries.{HasEntry};
-ghost use Rattle.ca_register.specs.declared.entry.Entry.{Entry as Recorded};
 
 use crate::entry::Entry;
 use sig_core::Scheme;
@@ -75,7 +72,8 @@ impl<S: Scheme + Drop> Register<S> {
             × (self.new.certificates.items ≡ self.old.certificates.items ++ cert ∷ [])) }
         ensures place { IfOk result (λ place. place ≡ length self.old.entries.items) }
         ensures scheme { self.new.scheme ≡ self.old.scheme }
-        ensures err { OnErr result (self.new ≡ self.old) }
+        ensures err { OnErr result ((self.new.entries.items ≡ self.old.entries.items)
+            × (self.new.certificates.items ≡ self.old.certificates.items)) }
     {
         let place = self.entries.len();
         push_both(&mut self.entries, &mut self.certificates, entry, cert)?;
@@ -92,15 +90,13 @@ fn push_both(
 ) -> Result<(), AllocError>
     ensures ok { OnOk result ((entries.new.items ≡ entries.old.items ++ entry ∷ [])
         × (certificates.new.items ≡ certificates.old.items ++ cert ∷ [])) }
-    ensures err { OnErr result ((entries.new ≡ entries.old)
-        × (certificates.new ≡ certificates.old)) }
+    ensures err { OnErr result ((entries.new.items ≡ entries.old.items)
+        × (certificates.new.items ≡ certificates.old.items)) }
 {
-    entries.push(entry)?;
-    match certificates.push(cert) {
+    entries.reserve(1)?;
+    certificates.push(cert)?;
+    match entries.push(entry) {
         Ok(()) => Ok(()),
-        Err(_refused) => {
-            entries.pop();
-            Err(AllocError)
-        }
+        Err(_) => unreachable!(),
     }
 }

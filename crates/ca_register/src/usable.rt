@@ -6,7 +6,7 @@ ghost use Rattle.x509_core.specs.Window.{IsEarlier};
 ghost use Rattle.ca_register.specs.Entries.{history_of};
 ghost use Rattle.ca_register.specs.Usable.{IsUsable};
 
-use crate::entry::Entry;
+use crate::entry::{Entry, entry_at};
 use crate::register::Register;
 use names_core::UtcDate;
 use sig_core::Scheme;
@@ -34,11 +34,13 @@ fn usable_from(entries: &[Entry], place: usize) -> (UtcDate, UtcDate)
     ensures { IsUsable entries.now place result.0 result.1 }
 {
     let mut at = place;
-    let mut from = entries[place].grant.from;
-    let mut to = entries[place].grant.to;
-    while let Some(above) = entries[at].issuer {
-        from = later(from, entries[above].grant.from);
-        to = earlier(to, entries[above].grant.to);
+    let grant = entry_at(entries, place).grant;
+    let mut from = grant.from;
+    let mut to = grant.to;
+    while let Some(above) = entry_at(entries, at).issuer {
+        let over = entry_at(entries, above);
+        from = later(from, over.grant.from);
+        to = earlier(to, over.grant.to);
         at = above;
     }
     (from, to)

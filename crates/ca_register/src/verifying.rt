@@ -15,6 +15,7 @@ ghost use Rattle.ca_register.specs.Entries.{history_of};
 ghost use Rattle.ca_register.specs.Usable.{IsBetween, IsUsable};
 
 use crate::ancestors::Ancestors;
+use crate::entry::entry_at;
 use crate::register::Register;
 use names_core::UtcDate;
 use sig_core::Scheme;
@@ -45,7 +46,7 @@ impl<S: Scheme + Drop> Register<S> {
         let ancestors = Ancestors {
             entries: &self.entries,
             certificates: &self.certificates,
-            issuer: self.entries[place].issuer,
+            issuer: entry_at(&self.entries, place).issuer,
             most: self.entries.len(),
         };
         verify_over(alloc, &self.certificates[place], ancestors, date, &self.scheme)
