@@ -7,3 +7,6 @@ mod AboveCertificates
 mod Children
 mod Builders
 mod Usability
+mod Kept
+mod Yielding
+mod Deciding

@@ -28,8 +28,9 @@ impl<'a> Iterator for Ancestors<'a> {
 
     fn next(&mut self) -> Option<&'a Cert> {
         let issuer = self.issuer?;
-        self.most = self.most.checked_sub(1)?;
         let cert = self.certificates.get(issuer)?;
+        let left = self.most.checked_sub(1)?;
+        self.most = left;
         self.issuer = issuer_at(self.entries, issuer);
         Some(cert)
     }

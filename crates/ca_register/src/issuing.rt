@@ -1,6 +1,6 @@
 //! Issuing certificates: roots, children, and answers to requests.
 
-ghost use Rattle.std.specs.Prelude.{◌≡◌, ℕ, List, [], ◌∷◌, Bool, Some, None, false, Err, IfOk, MatchResult, OnErr};
+ghost use Rattle.std.specs.Prelude.{◌≡◌, ◌<◌, ℕ, List, [], ◌∷◌, Bool, Some, None, false, Err, length, IfOk, MatchResult, OnErr};
 ghost use Rattle.der_core.specs.Encoding.{encoding};
 ghost use Rattle.der_core.specs.Refusals.{Wraps};
 ghost use Rattle.der_core.specs.Rules.{OrMemory};
@@ -63,6 +63,7 @@ impl<S: Scheme + Drop> Register<S> {
             self.new.certificates.items) }
         // A root that is no CA is refused as such, even when memory runs out.
         ensures recorded { grant.ca ≡ false → result ≡ Err errors.NotCa }
+        ensures within { IfOk result (λ place. place < length self.new.entries.items) }
         ensures scheme { self.new.scheme ≡ self.old.scheme }
         ensures err { OnErr result ((self.new.entries.items ≡ self.old.entries.items)
             × (self.new.certificates.items ≡ self.old.certificates.items)) }
@@ -115,6 +116,7 @@ impl<S: Scheme + Drop> Register<S> {
             → IsKeyPair (S.pair self.old.scheme) issuer_key.now
             parent.certificate.tbs_certificate.subject_public_key_info
             → result ≡ Err (errors.WrongKey source) → ⊥ }
+        ensures within { IfOk result (λ place. place < length self.new.entries.items) }
         ensures scheme { self.new.scheme ≡ self.old.scheme }
         ensures err { OnErr result ((self.new.entries.items ≡ self.old.entries.items)
             × (self.new.certificates.items ≡ self.old.certificates.items)) }
@@ -162,6 +164,7 @@ impl<S: Scheme + Drop> Register<S> {
             → IsKeyPair (S.pair self.old.scheme) issuer_key.now
             parent.certificate.tbs_certificate.subject_public_key_info
             → result ≡ Err (errors.WrongKey source) → ⊥ }
+        ensures within { IfOk result (λ place. place < length self.new.entries.items) }
         ensures scheme { self.new.scheme ≡ self.old.scheme }
         ensures err { OnErr result ((self.new.entries.items ≡ self.old.entries.items)
             × (self.new.certificates.items ≡ self.old.certificates.items)) }
@@ -206,6 +209,7 @@ impl<S: Scheme + Drop> Register<S> {
             → IsKeyPair (S.pair self.old.scheme) issuer_key.now
             parent.certificate.tbs_certificate.subject_public_key_info
             → result ≡ Err (errors.WrongKey source) → ⊥ }
+        ensures within { IfOk result (λ place. place < length self.new.entries.items) }
         ensures scheme { self.new.scheme ≡ self.old.scheme }
         ensures err { OnErr result ((self.new.entries.items ≡ self.old.entries.items)
             × (self.new.certificates.items ≡ self.old.certificates.items)) }

@@ -1,6 +1,6 @@
 //! A register: its entries and its certificates.
 
-ghost use Rattle.std.specs.Prelude.{◌≡◌, ◌≤◌, ◌+◌, ◌++◌, ℕ, List, [], ◌∷◌, Some, length, IfOk, MatchOption, OnErr, OnOk};
+ghost use Rattle.std.specs.Prelude.{◌≡◌, ◌≤◌, ◌<◌, ◌++◌, [], ◌∷◌, length, IfOk, MatchOption, OnErr, OnOk};
 ghost use Rattle.x509_core.specs.Issued.{HasCert};
 ghost use Rattle.ca_register.specs.Authorities.{IsRegister};
 ghost use Rattle.ca_register.specs.Entries.{HasEntry};
@@ -71,6 +71,7 @@ impl<S: Scheme + Drop> Register<S> {
         ensures ok { OnOk result ((self.new.entries.items ≡ self.old.entries.items ++ entry ∷ [])
             × (self.new.certificates.items ≡ self.old.certificates.items ++ cert ∷ [])) }
         ensures place { IfOk result (λ place. place ≡ length self.old.entries.items) }
+        ensures within { IfOk result (λ place. place < length self.new.entries.items) }
         ensures scheme { self.new.scheme ≡ self.old.scheme }
         ensures err { OnErr result ((self.new.entries.items ≡ self.old.entries.items)
             × (self.new.certificates.items ≡ self.old.certificates.items)) }

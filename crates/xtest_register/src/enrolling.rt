@@ -25,14 +25,14 @@ fn enrols_a_device(rt: HostRuntime) -> Result<(), Fail> {
     let key = key_of(rt.alloc(), 17)?;
     let request = request_of(rt.alloc(), 33)?;
     let of_device = grant(false, None, (2024, 2025))?;
-    assert_eq!(register.enrol(0, &key, &request, of_device, 7)?, 1);
-    assert!(register.verify(rt.alloc(), 1, &day((2024, 7, 1))?).is_ok());
-    assert!(register.verify(rt.alloc(), 1, &day((2025, 7, 1))?).is_err());
+    assert_eq!(rt; register.enrol(0, &key, &request, of_device, 7)?, 1);
+    assert!(rt; register.verify(rt.alloc(), 1, &day((2024, 7, 1))?).is_ok());
+    assert!(rt; register.verify(rt.alloc(), 1, &day((2025, 7, 1))?).is_err());
     let Some(cert) = register.certificate(1) else {
         return Err(Fail::from("there is no certificate"));
     };
     let subject = cert.subject_name(rt.alloc())?;
-    assert_eq!(format!(in rt.alloc(); "{subject}")?.as_str(), "CN=DEVICE");
+    assert_eq!(rt; format!(in rt.alloc(); "{subject}")?.as_str(), "CN=DEVICE");
     Ok(())
 }
 
@@ -42,7 +42,7 @@ fn refuses_octets_that_are_no_request(rt: HostRuntime) -> Result<(), Fail> {
     let key = key_of(rt.alloc(), 17)?;
     let of_device = grant(false, None, (2024, 2025))?;
     let refused = register.enrol(0, &key, &[0x30, 0x00], of_device, 7);
-    assert!(matches!(
+    assert!(rt; matches!(
         refused,
         Err(IssueError::Request(CsrError::Asn1Deserialization {
             source: DerError::Shape,
@@ -52,8 +52,8 @@ fn refuses_octets_that_are_no_request(rt: HostRuntime) -> Result<(), Fail> {
     // that the issuer is no CA is found first
     let leaf_key = key_of(rt.alloc(), 19)?;
     let also = register.enrol(2, &leaf_key, &[0x30, 0x00], of_device, 7);
-    assert!(matches!(also, Err(IssueError::NotCa)));
-    assert_eq!(register.len(), 3);
+    assert!(rt; matches!(also, Err(IssueError::NotCa)));
+    assert_eq!(rt; register.len(), 3);
     Ok(())
 }
 
@@ -67,7 +67,7 @@ fn refuses_a_request_signed_by_another_key(rt: HostRuntime) -> Result<(), Fail> 
     request[last] = !request[last];
     let of_device = grant(false, None, (2024, 2025))?;
     let refused = register.enrol(0, &key, &request, of_device, 7);
-    assert!(matches!(
+    assert!(rt; matches!(
         refused,
         Err(IssueError::Build(CertError::InvalidCsr {
             source: CsrError::Signature {
@@ -75,7 +75,7 @@ fn refuses_a_request_signed_by_another_key(rt: HostRuntime) -> Result<(), Fail> 
             }
         }))
     ));
-    assert_eq!(register.len(), 1);
+    assert_eq!(rt; register.len(), 1);
     Ok(())
 }
 
@@ -87,17 +87,17 @@ fn refuses_the_request_before_the_key(rt: HostRuntime) -> Result<(), Fail> {
     let mut request = request_of(rt.alloc(), 33)?;
     let of_device = grant(false, None, (2024, 2025))?;
     let by_other = register.enrol(0, &other, &request, of_device, 7);
-    assert!(matches!(
+    assert!(rt; matches!(
         by_other,
         Err(IssueError::WrongKey(SignatureError::BadSignature))
     ));
     let last = request.len() - 1;
     request[last] = !request[last];
     let refused = register.enrol(0, &other, &request, of_device, 7);
-    assert!(matches!(
+    assert!(rt; matches!(
         refused,
         Err(IssueError::Build(CertError::InvalidCsr { .. }))
     ));
-    assert_eq!(register.len(), 1);
+    assert_eq!(rt; register.len(), 1);
     Ok(())
 }

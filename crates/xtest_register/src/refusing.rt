@@ -18,8 +18,8 @@ fn refuses_a_root_that_is_no_ca(rt: HostRuntime) -> Result<(), Fail> {
     let key = key_of(rt.alloc(), 17)?;
     let name = name_of(rt.alloc(), "R")?;
     let refused = register.root(name, &key, grant(false, None, (2020, 2030))?, 1);
-    assert!(matches!(refused, Err(IssueError::NotCa)));
-    assert!(is_as_before(&register, 1));
+    assert!(rt; matches!(refused, Err(IssueError::NotCa)));
+    assert!(rt; is_as_before(&register, 1));
     Ok(())
 }
 
@@ -28,11 +28,11 @@ fn refuses_an_issuer_that_is_none(rt: HostRuntime) -> Result<(), Fail> {
     let mut register = with_leaf(rt.alloc())?;
     let of_child = grant(false, None, (2022, 2023))?;
     let refused = child(rt.alloc(), &mut register, (3, 17), ("X", 20), of_child)?;
-    assert!(matches!(
+    assert!(rt; matches!(
         refused,
         Err(IssueError::NoIssuer { issuer: 3, len: 3 })
     ));
-    assert!(is_as_before(&register, 3));
+    assert!(rt; is_as_before(&register, 3));
     Ok(())
 }
 
@@ -42,8 +42,8 @@ fn refuses_an_issuer_that_is_no_ca(rt: HostRuntime) -> Result<(), Fail> {
     let of_child = grant(false, None, (2022, 2023))?;
     let refused = child(rt.alloc(), &mut register, (2, 19), ("X", 20), of_child)?;
     // the intermediate's path length is too short as well
-    assert!(matches!(refused, Err(IssueError::NotCa)));
-    assert!(is_as_before(&register, 3));
+    assert!(rt; matches!(refused, Err(IssueError::NotCa)));
+    assert!(rt; is_as_before(&register, 3));
     Ok(())
 }
 
@@ -54,11 +54,11 @@ fn refuses_a_path_that_is_too_deep(rt: HostRuntime) -> Result<(), Fail> {
     let middle = child(rt.alloc(), &mut register, (1, 18), ("M", 20), of_middle)??;
     let of_child = grant(false, None, (2022, 2023))?;
     let refused = child(rt.alloc(), &mut register, (middle, 20), ("X", 21), of_child)?;
-    assert!(matches!(refused, Err(IssueError::TooDeep { ancestor: 1 })));
+    assert!(rt; matches!(refused, Err(IssueError::TooDeep { ancestor: 1 })));
     // a key that isn't the issuer's is found later
     let also = child(rt.alloc(), &mut register, (middle, 17), ("X", 21), of_child)?;
-    assert!(matches!(also, Err(IssueError::TooDeep { ancestor: 1 })));
-    assert!(is_as_before(&register, 4));
+    assert!(rt; matches!(also, Err(IssueError::TooDeep { ancestor: 1 })));
+    assert!(rt; is_as_before(&register, 4));
     Ok(())
 }
 
@@ -68,12 +68,12 @@ fn allows_as_many_as_the_path_length(rt: HostRuntime) -> Result<(), Fail> {
     let mut register = with_root(rt.alloc())?;
     let first = grant(true, Some(2), (2020, 2030))?;
     let free = grant(true, None, (2020, 2030))?;
-    assert_eq!(child(rt.alloc(), &mut register, (0, 17), ("A", 18), first)??, 1);
-    assert_eq!(child(rt.alloc(), &mut register, (1, 18), ("B", 19), free)??, 2);
-    assert_eq!(child(rt.alloc(), &mut register, (2, 19), ("C", 20), free)??, 3);
-    assert_eq!(child(rt.alloc(), &mut register, (3, 20), ("D", 21), free)??, 4);
+    assert_eq!(rt; child(rt.alloc(), &mut register, (0, 17), ("A", 18), first)??, 1);
+    assert_eq!(rt; child(rt.alloc(), &mut register, (1, 18), ("B", 19), free)??, 2);
+    assert_eq!(rt; child(rt.alloc(), &mut register, (2, 19), ("C", 20), free)??, 3);
+    assert_eq!(rt; child(rt.alloc(), &mut register, (3, 20), ("D", 21), free)??, 4);
     let refused = child(rt.alloc(), &mut register, (4, 21), ("E", 22), free)?;
-    assert!(matches!(refused, Err(IssueError::TooDeep { ancestor: 3 })));
+    assert!(rt; matches!(refused, Err(IssueError::TooDeep { ancestor: 3 })));
     Ok(())
 }
 
@@ -82,11 +82,11 @@ fn refuses_the_key_of_another(rt: HostRuntime) -> Result<(), Fail> {
     let mut register = with_leaf(rt.alloc())?;
     let of_child = grant(false, None, (2022, 2023))?;
     let refused = child(rt.alloc(), &mut register, (1, 17), ("X", 20), of_child)?;
-    assert!(matches!(
+    assert!(rt; matches!(
         refused,
         Err(IssueError::WrongKey(SignatureError::BadSignature))
     ));
-    assert!(is_as_before(&register, 3));
+    assert!(rt; is_as_before(&register, 3));
     Ok(())
 }
 
@@ -107,7 +107,7 @@ fn refuses_what_is_not_built(rt: HostRuntime) -> Result<(), Fail> {
     let public = key_of(rt.alloc(), 18)?.to_public_key(rt.alloc())?;
     let name = name_of(rt.alloc(), "X")?;
     let refused = register.child(0, &key, name, public, of_child, 2);
-    assert!(matches!(refused, Err(IssueError::Build(_))));
-    assert!(is_as_before(&register, 1));
+    assert!(rt; matches!(refused, Err(IssueError::Build(_))));
+    assert!(rt; is_as_before(&register, 1));
     Ok(())
 }
