@@ -122,7 +122,7 @@ module _ (scheme : KeyArithmetic) (word : ℕ) (certificates : List KeptCertific
   child_unbuilt source (inr memory) = inr (ap unbuilt memory)
 
   module _ (cert : KeptCertificate) (built : IsBuilt scheme b word cert) where
-    under : IsBuiltUnder scheme word certificates issuer IsBuilder cert
+    abbrev under : IsBuiltUnder scheme word certificates issuer IsBuilder cert
     under = record { parent = parent; has = has; by = record { builder = b; is = is; built = built } }
 
     pub child_signed : (r : Result KeptCertificate IssueError)
@@ -171,7 +171,7 @@ issued_taken scheme word certificates issuer IsBuilder cert is = ((cert, is.unde
 
 -- ---- what the signature decides
 
-module _ {P : KeptCertificate → Type 0} (judge : Judge) (parent cert : KeptCertificate) (r : Result KeptCertificate IssueError)
+module _ (P : KeptCertificate → Type 0) (judge : Judge) (parent cert : KeptCertificate) (r : Result KeptCertificate IssueError)
     (signed : MatchResult r (λ signed. (signed ≡ cert) × IsSignedBy judge parent.elements cert.elements)
     (OrMemory errors.Memory (Wraps wrong_key (λ source. IsBadlySignedLink judge parent.elements cert.elements (causes.Signature source))))) where
   pub if_signed : (IsSignedBy judge parent.elements cert.elements → P cert) → IfOk r P

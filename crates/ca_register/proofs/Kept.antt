@@ -52,7 +52,7 @@ module _ (judge : Judge) (entries : List Entry) (certificates : List KeptCertifi
       above other ancestors same are =
           let here : other ≡ issuer = sym (same_some issuer other same) in
           subst (λ (i : ℕ). AreAuthorities (history_of entries) (i ∷ ancestors)) (sym here)
-          (authorities_above judge entries certificates is issuer taken.1 taken.2 ancestors (subst (λ (i : ℕ). AreAncestors (history_of entries) i ancestors) here are))
+          (authorities_above judge entries certificates is issuer taken.1.0 taken.1.1.0 ancestors (subst (λ (i : ℕ). AreAncestors (history_of entries) i ancestors) here are))
 
       pub with_child : IsRegister judge (entries ++ Added ∷ []) (certificates ++ cert ∷ [])
       with_child = with_certificate judge entries certificates is Added cert next (λ none. absurd (some_is_none issuer none)) above
@@ -60,5 +60,5 @@ module _ (judge : Judge) (entries : List Entry) (certificates : List KeptCertifi
     pub kept_child : ((key : List ℕ) → HasSubjectKey parent.elements key → ∥ IsRecordedAs (step_of Added) cert × IsCertifiedBy judge parent.elements cert.elements ∥₁)
         → ∥ IsRegister judge (entries ++ Added ∷ []) (certificates ++ cert ∷ []) ∥₁
     kept_child certified = ∥∥₁_elim kept (λ a b. squash₁ a b) (λ is.
-        let issuing = is.issued.recorded issuer (step_of taken.1.0) parent (step_at entries issuer taken.1.0 taken.1.1) has in
+        let issuing = is.issued.recorded issuer (step_of taken.1.0.0) parent (step_at entries issuer taken.1.0.0 taken.1.0.1) has in
         ∥∥₁_map (certified issuing.key issuing.identified) (λ both. with_child is both.0 both.1))

@@ -6,7 +6,7 @@ use Rattle.ca_register.specs.declared.entry.Entry.{Entry}
 use Rattle.ca_register.specs.declared.ancestors.Ancestors.{Ancestors}
 
 -- a certificate before others, if there is one
-abbrev before : Option KeptCertificate → List KeptCertificate → List KeptCertificate
+abbrev pub before : Option KeptCertificate → List KeptCertificate → List KeptCertificate
 before None others = []
 before (Some cert) others = cert ∷ others
 

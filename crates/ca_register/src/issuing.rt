@@ -189,7 +189,7 @@ impl<S: Scheme + Drop> Register<S> {
         requires recorded { AreTaken (record_steps self.old.entries.items issuer) }
         requires granted { IsGranted grant builder }
         requires unidentified { builder.authority_key_identifier ≡ None }
-        ensures answer { (subject : Subject) (inherits : Bool) → IsFor grant subject inherits builder
+        ensures answer { (subject : Subject) (inherits : Bool) → IsFor grant subject inherits builder.entry
             → MatchResult result
             (λ place. AreTaken (signed_steps (arithmetic (S.judge self.old.scheme)
             (S.signs self.old.scheme) (S.pair self.old.scheme)) word self.old.certificates.items
@@ -197,7 +197,7 @@ impl<S: Scheme + Drop> Register<S> {
             (RefusesBySteps errors.Memory (signed_steps (arithmetic (S.judge self.old.scheme)
             (S.signs self.old.scheme) (S.pair self.old.scheme)) word self.old.certificates.items
             issuer (IsChildBuilder grant subject inherits issuer_key.now))) }
-        ensures added { (subject : Subject) (inherits : Bool) → IsFor grant subject inherits builder
+        ensures added { (subject : Subject) (inherits : Bool) → IsFor grant subject inherits builder.entry
             → IfOk result (Adds (record { issuer = Some issuer; grant = grant })
             (IsIssuedCert (arithmetic (S.judge self.old.scheme) (S.signs self.old.scheme)
             (S.pair self.old.scheme)) word self.old.certificates.items issuer
@@ -261,7 +261,7 @@ fn issued_cert<'a, S: Scheme>(
     requires unidentified { builder.authority_key_identifier ≡ None }
     requires algorithm { builder.signature_hash_type ≡ algorithms.RsaPkcs1v15 hashes.SHA2_256 }
     ensures answer { (grant : Granted) (subject : Subject) (inherits : Bool)
-        (certificates : List KeptCertificate) (issuer : ℕ) → IsFor grant subject inherits builder
+        (certificates : List KeptCertificate) (issuer : ℕ) → IsFor grant subject inherits builder.entry
         → HasCert certificates issuer parent.now → MatchResult result
         (IsIssuedCert (arithmetic (S.judge scheme.now) (S.signs scheme.now) (S.pair scheme.now))
         word certificates issuer (IsChildBuilder grant subject inherits issuer_key.now))
@@ -269,7 +269,7 @@ fn issued_cert<'a, S: Scheme>(
         (S.signs scheme.now) (S.pair scheme.now)) word certificates issuer
         (IsChildBuilder grant subject inherits issuer_key.now))) }
     ensures recorded { IfOk result (λ cert. (entry : Recorded) (key : List ℕ)
-        → IsGranted entry.grant builder → HasSubjectKey parent.now.elements key
+        → IsGranted entry.grant builder.entry → HasSubjectKey parent.now.elements key
         → ∥ IsRecordedAs (step_of entry) cert
         × IsCertifiedBy (S.judge scheme.now) parent.now.elements cert.elements ∥₁) }
     ensures paired { (source : Unsigned)

@@ -34,7 +34,7 @@ returns-in-Ok-clause-recorded g c =
     let cert = c.in-Ok.cert in
     let built = c.in-Ok.ensures in
     let under = c.in_ok-issuer_cert.ensures.ok in
-    if_signed judge parent cert c.signed_cert.result c.signed_cert.ensures
+    if_signed _ judge parent cert c.signed_cert.result c.signed_cert.ensures
     (λ by_key entry key granted had. ∥∥₁_map cert.spelled (λ are. (
       recorded judge signs pair _ c.args.word cert built.answer are built.constrained built.identified built.distinct entry (granted_under entry.grant c.args.issuer_key parent c.args.builder _ granted under),
       certified judge signs pair _ c.args.word cert built.answer are built.constrained built.identified built.distinct parent c.args.issuer_key c.args.builder under key had (c.in_ok-issuer_cert.ensures.identified key had) by_key,
