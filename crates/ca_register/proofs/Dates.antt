@@ -43,8 +43,10 @@ before_later a b c early not_before = by (less_or_not (order b c))
         -- as `a` compares with both
         reversed : (o p : Ordering) → o ≡ ordering_reverse p → p ≡ Greater → o ≡ Less
         reversed o p e g = e ∙ ap ordering_reverse g
+
         greater : (o p : Ordering) → p ≡ ordering_reverse o → o ≡ Less → p ≡ Greater
         greater o p e l = e ∙ ap ordering_reverse l
+
         same_before : order b c ≡ Equal → IsEarlier a c
         same_before e =
             let congr = nat_list_cmp_total.congr (generalized_fields b) (generalized_fields c) (generalized_fields a) e in

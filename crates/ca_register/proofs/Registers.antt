@@ -45,6 +45,7 @@ module _ (judge : Judge) (entries : List Entry) (certificates : List KeptCertifi
       where
         of : IsStepOf entries place step
         of = entry_of entries place step has
+
         by : (limit < number) ⊎ (number ≤ limit) → number ≤ limit
         by (inl short) = absurd (deep (issuer ∷ ancestors) number (record { ancestors = ancestors; is = refl; are = are })
             (record { place = place; at = at; entry = of.entry; has = of.has; limit = limit; limited = ap (λ (s : IssuingStep). s.pathlen) of.is ∙ limited; short = short }))
@@ -111,6 +112,7 @@ module _ (judge : Judge) (entries : List Entry) (certificates : List KeptCertifi
             last_place : IsOldOrNew Steps (step_of entry) place a.0.0.step → length Steps ≤ place → place ≡ length Steps
             last_place (inl old) past = absurd (omega (arith, slice_get_within Steps place a.0.0.step old, past))
             last_place (inr (here, same)) past = here
+
         by : (place < length Steps) ⊎ (length Steps ≤ place) → AreAuthorities Longer ancestors
         by (inl old) =
             let before = old_ancestors Steps (step_of entry) issued.ordered place ancestors old are in

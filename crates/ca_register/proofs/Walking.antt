@@ -61,6 +61,7 @@ module _ (entries : List Entry) (issuer : ℕ) where
         here nearer same short =
             let place : short.place ≡ above = same_some short.place above (sym short.at ∙ ap (slice_get (issuer ∷ ancestors)) same ∙ found_above ancestors are) in
             enough (short.entry, subst (λ (p : ℕ). HasEntry entries p short.entry) place short.has, (short.limit, short.limited, omega (arith, short.short, same)))
+
         none : (nearer : ℕ) → nearer ≤ number + 1 → IsTooShort entries (issuer ∷ ancestors) nearer → ⊥
         none nearer few short = by (cases_lt number nearer)
           where
@@ -139,6 +140,7 @@ module _ (Beats : GeneralizedTime → GeneralizedTime → Type 0) (moment_of : E
             subst (λ (e : Entry). Beats better (moment_of e) → ⊥) one beaten.1
         | inr before ↦ over better moment (moment_of other) beaten.0 (so_far.none index place other before there held)
       ]
+
       by : (better ≡ moment) ⊎ (better ≡ moment_of entry) → Best places (suc number) better
       by (inl old) = record { best = so_far.best; among = so_far.among; is = so_far.is ∙ sym old; none = unbeaten }
       by (inr new) = record { best = entry; among = record { index = suc number; place = above; at = at; has = has }; is = sym new; none = unbeaten }

@@ -41,7 +41,9 @@ impl Drop for IssueError {
                 len: _len,
             } => {}
             IssueError::NotCa => {}
-            IssueError::TooDeep { ancestor: _ancestor } => {}
+            IssueError::TooDeep {
+                ancestor: _ancestor,
+            } => {}
             IssueError::Request(_source) => {}
             IssueError::Build(_source) => {}
             IssueError::WrongKey(_source) => {}

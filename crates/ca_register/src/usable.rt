@@ -51,7 +51,11 @@ fn later(first: UtcDate, second: UtcDate) -> UtcDate
     ensures either { (result ≡ first) ⊎ (result ≡ second) }
     ensures latest { (IsEarlier result first → ⊥) × (IsEarlier result second → ⊥) }
 {
-    if is_earlier(first, second) { second } else { first }
+    if is_earlier(first, second) {
+        second
+    } else {
+        first
+    }
 }
 
 /// The earlier of two dates.
@@ -59,7 +63,11 @@ fn earlier(first: UtcDate, second: UtcDate) -> UtcDate
     ensures either { (result ≡ first) ⊎ (result ≡ second) }
     ensures earliest { (IsEarlier first result → ⊥) × (IsEarlier second result → ⊥) }
 {
-    if is_earlier(second, first) { second } else { first }
+    if is_earlier(second, first) {
+        second
+    } else {
+        first
+    }
 }
 
 /// Whether the first date is before the second.

@@ -49,7 +49,13 @@ impl<S: Scheme + Drop> Register<S> {
             issuer: entry_at(&self.entries, place).issuer,
             most: self.entries.len(),
         };
-        verify_over(alloc, &self.certificates[place], ancestors, date, &self.scheme)
+        verify_over(
+            alloc,
+            &self.certificates[place],
+            ancestors,
+            date,
+            &self.scheme,
+        )
     }
 }
 

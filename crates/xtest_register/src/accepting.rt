@@ -90,7 +90,10 @@ fn is_usable_between_the_nearest_ends(rt: HostRuntime) -> Result<(), Fail> {
 fn accepts_none_after_its_issuer(rt: HostRuntime) -> Result<(), Fail> {
     let mut register = with_root(rt.alloc())?;
     let late = grant(false, None, (2031, 2032))?;
-    assert_eq!(rt; child(rt.alloc(), &mut register, (0, 17), ("X", 18), late)??, 1);
+    assert_eq!(rt;
+        child(rt.alloc(), &mut register, (0, 17), ("X", 18), late)??,
+        1
+    );
     assert_eq!(rt; accepted(rt.alloc(), &register, (2030, 1, 1))?, 1);
     assert_eq!(rt; accepted(rt.alloc(), &register, (2031, 6, 1))?, 0);
     Ok(())

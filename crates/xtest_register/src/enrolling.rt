@@ -42,13 +42,15 @@ fn refuses_octets_that_are_no_request(rt: HostRuntime) -> Result<(), Fail> {
     let key = key_of(rt.alloc(), 17)?;
     let of_device = grant(false, None, (2024, 2025))?;
     let refused = register.enrol(0, &key, &[0x30, 0x00], of_device, 7);
-    assert!(rt; matches!(
-        refused,
-        Err(IssueError::Request(CsrError::Asn1Deserialization {
-            source: DerError::Shape,
-            ..
-        }))
-    ));
+    assert!(rt;
+        matches!(
+            refused,
+            Err(IssueError::Request(CsrError::Asn1Deserialization {
+                source: DerError::Shape,
+                ..
+            }))
+        )
+    );
     // that the issuer is no CA is found first
     let leaf_key = key_of(rt.alloc(), 19)?;
     let also = register.enrol(2, &leaf_key, &[0x30, 0x00], of_device, 7);
@@ -67,14 +69,16 @@ fn refuses_a_request_signed_by_another_key(rt: HostRuntime) -> Result<(), Fail> 
     request[last] = !request[last];
     let of_device = grant(false, None, (2024, 2025))?;
     let refused = register.enrol(0, &key, &request, of_device, 7);
-    assert!(rt; matches!(
-        refused,
-        Err(IssueError::Build(CertError::InvalidCsr {
-            source: CsrError::Signature {
-                source: SignatureError::BadSignature
-            }
-        }))
-    ));
+    assert!(rt;
+        matches!(
+            refused,
+            Err(IssueError::Build(CertError::InvalidCsr {
+                source: CsrError::Signature {
+                    source: SignatureError::BadSignature
+                }
+            }))
+        )
+    );
     assert_eq!(rt; register.len(), 1);
     Ok(())
 }
@@ -87,17 +91,21 @@ fn refuses_the_request_before_the_key(rt: HostRuntime) -> Result<(), Fail> {
     let mut request = request_of(rt.alloc(), 33)?;
     let of_device = grant(false, None, (2024, 2025))?;
     let by_other = register.enrol(0, &other, &request, of_device, 7);
-    assert!(rt; matches!(
-        by_other,
-        Err(IssueError::WrongKey(SignatureError::BadSignature))
-    ));
+    assert!(rt;
+        matches!(
+            by_other,
+            Err(IssueError::WrongKey(SignatureError::BadSignature))
+        )
+    );
     let last = request.len() - 1;
     request[last] = !request[last];
     let refused = register.enrol(0, &other, &request, of_device, 7);
-    assert!(rt; matches!(
-        refused,
-        Err(IssueError::Build(CertError::InvalidCsr { .. }))
-    ));
+    assert!(rt;
+        matches!(
+            refused,
+            Err(IssueError::Build(CertError::InvalidCsr { .. }))
+        )
+    );
     assert_eq!(rt; register.len(), 1);
     Ok(())
 }

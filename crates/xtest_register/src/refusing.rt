@@ -28,10 +28,7 @@ fn refuses_an_issuer_that_is_none(rt: HostRuntime) -> Result<(), Fail> {
     let mut register = with_leaf(rt.alloc())?;
     let of_child = grant(false, None, (2022, 2023))?;
     let refused = child(rt.alloc(), &mut register, (3, 17), ("X", 20), of_child)?;
-    assert!(rt; matches!(
-        refused,
-        Err(IssueError::NoIssuer { issuer: 3, len: 3 })
-    ));
+    assert!(rt; matches!(refused, Err(IssueError::NoIssuer { issuer: 3, len: 3 })));
     assert!(rt; is_as_before(&register, 3));
     Ok(())
 }
@@ -68,10 +65,22 @@ fn allows_as_many_as_the_path_length(rt: HostRuntime) -> Result<(), Fail> {
     let mut register = with_root(rt.alloc())?;
     let first = grant(true, Some(2), (2020, 2030))?;
     let free = grant(true, None, (2020, 2030))?;
-    assert_eq!(rt; child(rt.alloc(), &mut register, (0, 17), ("A", 18), first)??, 1);
-    assert_eq!(rt; child(rt.alloc(), &mut register, (1, 18), ("B", 19), free)??, 2);
-    assert_eq!(rt; child(rt.alloc(), &mut register, (2, 19), ("C", 20), free)??, 3);
-    assert_eq!(rt; child(rt.alloc(), &mut register, (3, 20), ("D", 21), free)??, 4);
+    assert_eq!(rt;
+        child(rt.alloc(), &mut register, (0, 17), ("A", 18), first)??,
+        1
+    );
+    assert_eq!(rt;
+        child(rt.alloc(), &mut register, (1, 18), ("B", 19), free)??,
+        2
+    );
+    assert_eq!(rt;
+        child(rt.alloc(), &mut register, (2, 19), ("C", 20), free)??,
+        3
+    );
+    assert_eq!(rt;
+        child(rt.alloc(), &mut register, (3, 20), ("D", 21), free)??,
+        4
+    );
     let refused = child(rt.alloc(), &mut register, (4, 21), ("E", 22), free)?;
     assert!(rt; matches!(refused, Err(IssueError::TooDeep { ancestor: 3 })));
     Ok(())
@@ -82,10 +91,12 @@ fn refuses_the_key_of_another(rt: HostRuntime) -> Result<(), Fail> {
     let mut register = with_leaf(rt.alloc())?;
     let of_child = grant(false, None, (2022, 2023))?;
     let refused = child(rt.alloc(), &mut register, (1, 17), ("X", 20), of_child)?;
-    assert!(rt; matches!(
-        refused,
-        Err(IssueError::WrongKey(SignatureError::BadSignature))
-    ));
+    assert!(rt;
+        matches!(
+            refused,
+            Err(IssueError::WrongKey(SignatureError::BadSignature))
+        )
+    );
     assert!(rt; is_as_before(&register, 3));
     Ok(())
 }

@@ -26,8 +26,8 @@ pub loop-above-preserved : goal.loop-above-preserved
 loop-above-preserved c =
     let earlier = c.requires.ordered c.loop-above.at c.in-Some.above (issued_at c.args.entries.now c.loop-above.at c.in-Some.above c.entry_at.result c.entry_at.ensures c.in-Some.is) in
     let enough : IsShortAt c.args.entries.now c.args.issuer c.in-Some.above (c.loop-above.number + 1) → ⊥ = λ short.
-        let same : short.0 ≡ c.entry_at-in-Some.result = same_some short.0 c.entry_at-in-Some.result (sym short.1 ∙ c.entry_at-in-Some.ensures) in
-        false≢true (sym c.if-is_too_short.false ∙ c.is_too_short.ensures.1 (short.2.0, ap (λ (e : Entry). e.grant.path_length) (sym same) ∙ short.2.1, short.2.2)) in
+    let same : short.0 ≡ c.entry_at-in-Some.result = same_some short.0 c.entry_at-in-Some.result (sym short.1 ∙ c.entry_at-in-Some.ensures) in
+    false≢true (sym c.if-is_too_short.false ∙ c.is_too_short.ensures.1 (short.2.0, ap (λ (e : Entry). e.grant.path_length) (sym same) ∙ short.2.1, short.2.2)) in
     record {
       within = omega (arith, earlier, c.loop-above.invariant.within);
       few = omega (arith, earlier, c.loop-above.invariant.few);
