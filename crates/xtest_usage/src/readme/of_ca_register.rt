@@ -27,22 +27,6 @@ fn enrol_device<S: Scheme + Drop>(
     Ok(register.usable(place))
 }
 
-/// The RSA private key with this modulus and the exponent 3.
-fn key_of(alloc: Global, modulus: u8) -> Result<PrivateKey, Fail> {
-    let octets = [
-        0x30, 27, 2, 1, 0, 2, 1, modulus, 2, 1, 3, 2, 1, 5, 2, 1, 7, 2, 1, 11, 2, 1, 1, 2, 1, 2, 2,
-        1, 4,
-    ];
-    Ok(PrivateKey::from_pkcs1(alloc, &octets)?)
-}
-
-fn year(year: u16) -> Result<UtcDate, Fail> {
-    match UtcDate::ymd(year, 1, 1) {
-        Some(date) => Ok(date),
-        None => Err(Fail::from("no such year")),
-    }
-}
-
 #[test]
 fn enrols_a_device_by_its_request(rt: HostRuntime) -> Result<(), Fail> {
     let alloc = rt.alloc();
@@ -73,4 +57,20 @@ fn enrols_a_device_by_its_request(rt: HostRuntime) -> Result<(), Fail> {
     // it ends with the root
     assert_eq!(rt; usable, Some((year(2025)?, year(2030)?)));
     Ok(())
+}
+
+/// The RSA private key with this modulus and the exponent 3.
+fn key_of(alloc: Global, modulus: u8) -> Result<PrivateKey, Fail> {
+    let octets = [
+        0x30, 27, 2, 1, 0, 2, 1, modulus, 2, 1, 3, 2, 1, 5, 2, 1, 7, 2, 1, 11, 2, 1, 1, 2, 1, 2, 2,
+        1, 4,
+    ];
+    Ok(PrivateKey::from_pkcs1(alloc, &octets)?)
+}
+
+fn year(year: u16) -> Result<UtcDate, Fail> {
+    match UtcDate::ymd(year, 1, 1) {
+        Some(date) => Ok(date),
+        None => Err(Fail::from("no such year")),
+    }
 }
