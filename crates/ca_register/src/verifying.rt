@@ -69,9 +69,9 @@ fn verify_over<S: Scheme>(
 ) -> Result<(), CertError>
     ensures { MatchResult result
         (λ _. IsAccepted (S.judge scheme.now) (checks_at (dates.Exact date.now) first_checks)
-        checked.now (Some (above_left parents)))
+        checked.now (Some (above_left parents.entry)))
         (RefusesCertBy (chain_rules (S.judge scheme.now) (checks_at (dates.Exact date.now)
-        first_checks) checked.now (Some (above_left parents)))) }
+        first_checks) checked.now (Some (above_left parents.entry)))) }
 {
     checked
         .verifier()

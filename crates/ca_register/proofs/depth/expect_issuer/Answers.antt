@@ -1,29 +1,20 @@
-use Rattle.std.proofs.Common.{◌≡◌, Bool, true, false, inl, inr, refl, rules}
-use Rattle.std.specs.Prelude.{not}
+use Rattle.std.proofs.Common.{inl, inr, refl, rules}
 use Rattle.std.proofs.lemmas.Option.{slice_get_read, slice_get_within}
 use Rattle.std.proofs.lemmas.Result.{MatchResult-weaker}
 use Rattle.ca_register.proofs.depth.expect_issuer.Goals as goal
-
-is_false : (b : Bool) → not b ≡ true → b ≡ false
-is_false true e = absurd cc
-is_false false e = refl
-
-is_true : (b : Bool) → not b ≡ false → b ≡ true
-is_true true e = refl
-is_true false e = absurd cc
 
 pub returns-then-not-entry : goal.returns-then-not-entry
 returns-then-not-entry c =
     let entry = c.in-Some.entry.now in
     let has = slice_get_read c.args.entries.now _ c.args.issuer entry refl (search rules) c.in-Some.ensures.lookup.1 in
-    inr (slice_get_within c.args.entries.now c.args.issuer entry has, inl (entry, has, is_false entry.grant.ca c.if-not-entry.true, refl))
+    inr (slice_get_within c.args.entries.now c.args.issuer entry has, inl (entry, has, c.if-not-entry.true, refl))
 
 pub returns-else-not-entry : goal.returns-else-not-entry
 returns-else-not-entry c =
     let entry = c.in-Some.entry.now in
     let has = slice_get_read c.args.entries.now _ c.args.issuer entry refl (search rules) c.in-Some.ensures.lookup.1 in
     let within = slice_get_within c.args.entries.now c.args.issuer entry has in
-    let ca = is_true entry.grant.ca c.if-not-entry.false in
+    let ca = c.if-not-entry.false in
     MatchResult-weaker c.expect_depth.result c.expect_depth.ensures
     (λ done none. (within, ((entry, has, ca), (none, tt))))
     (λ e deep. inr (within, inr ((entry, has, ca), inl deep)))
