@@ -123,7 +123,13 @@ impl<S: Scheme + Drop> Register<S> {
     {
         expect_issuer(&self.entries, issuer)?;
         let builder = granted(self.alloc, grant).subject(name, public_key);
-        self.issue(issuer, issuer_key, builder, grant, word)
+        let parent = &self.certificates[issuer];
+        let cert = issued_cert(self.alloc, parent, issuer_key, builder, word, &self.scheme)?;
+        let entry = Entry {
+            issuer: Some(issuer),
+            grant,
+        };
+        Ok(self.add(entry, cert)?)
     }
 
     /// Issues a certificate for a request (RFC 2986), with the extensions that it asks for, signed
@@ -174,46 +180,6 @@ impl<S: Scheme + Drop> Register<S> {
         let builder = granted(self.alloc, grant)
             .subject_from_csr(csr)
             .inherit_extensions_from_csr_attributes(true);
-        self.issue(issuer, issuer_key, builder, grant, word)
-    }
-
-    /// Issues a certificate that the builder describes, but for its issuer.
-    fn issue<'a>(
-        &mut self,
-        issuer: usize,
-        issuer_key: &'a PrivateKey,
-        builder: CertificateBuilder<'a>,
-        grant: Grant,
-        word: u32,
-    ) -> Result<usize, IssueError>
-        requires recorded { AreTaken (record_steps self.old.entries.items issuer) }
-        requires granted { IsGranted grant builder }
-        requires unidentified { builder.authority_key_identifier ≡ None }
-        ensures answer { (subject : Subject) (inherits : Bool) → IsFor grant subject inherits builder.entry
-            → MatchResult result
-            (λ place. AreTaken (signed_steps (arithmetic (S.judge self.old.scheme)
-            (S.signs self.old.scheme) (S.pair self.old.scheme)) word self.old.certificates.items
-            issuer (IsChildBuilder grant subject inherits issuer_key.now)))
-            (RefusesBySteps errors.Memory (signed_steps (arithmetic (S.judge self.old.scheme)
-            (S.signs self.old.scheme) (S.pair self.old.scheme)) word self.old.certificates.items
-            issuer (IsChildBuilder grant subject inherits issuer_key.now))) }
-        ensures added { (subject : Subject) (inherits : Bool) → IsFor grant subject inherits builder.entry
-            → IfOk result (Adds (record { issuer = Some issuer; grant = grant })
-            (IsIssuedCert (arithmetic (S.judge self.old.scheme) (S.signs self.old.scheme)
-            (S.pair self.old.scheme)) word self.old.certificates.items issuer
-            (IsChildBuilder grant subject inherits issuer_key.now))
-            self.old.entries.items self.new.entries.items self.old.certificates.items
-            self.new.certificates.items) }
-        ensures paired { (parent : KeptCertificate) (source : Unsigned)
-            → HasCert self.old.certificates.items issuer parent
-            → IsKeyPair (S.pair self.old.scheme) issuer_key.now
-            parent.certificate.tbs_certificate.subject_public_key_info
-            → result ≡ Err (errors.WrongKey source) → ⊥ }
-        ensures within { IfOk result (λ place. place < length self.new.entries.items) }
-        ensures scheme { self.new.scheme ≡ self.old.scheme }
-        ensures err { OnErr result ((self.new.entries.items ≡ self.old.entries.items)
-            × (self.new.certificates.items ≡ self.old.certificates.items)) }
-    {
         let parent = &self.certificates[issuer];
         let cert = issued_cert(self.alloc, parent, issuer_key, builder, word, &self.scheme)?;
         let entry = Entry {
