@@ -20,10 +20,10 @@ use Rattle.ca_register.specs.Usable.{IsBetween, IsUsable}
 use Rattle.ca_register.specs.declared.entry.Entry.{Entry}
 use Rattle.ca_register.proofs.Usability.{between_valid, valid_between}
 
-abbrev checks_of : GeneralizedTime → ChainChecks
+abbrev pub checks_of : GeneralizedTime → ChainChecks
 checks_of date = checks_at (dates.Exact date) first_checks
 
-abbrev Verdict : {T : Type 0} → Judge → GeneralizedTime → KeptCertificate → List KeptCertificate → Result T CertError → Type 0
+abbrev pub Verdict : {T : Type 0} → Judge → GeneralizedTime → KeptCertificate → List KeptCertificate → Result T CertError → Type 0
 Verdict judge date checked parents r =
     MatchResult r (λ _. IsAccepted judge (checks_of date) checked (Some parents)) (RefusesCertBy (chain_rules judge (checks_of date) checked (Some parents)))
 

@@ -10,3 +10,6 @@ mod Usability
 mod Kept
 mod Yielding
 mod Deciding
+mod RecordSteps
+mod Issued
+mod Verdicts
