@@ -8,8 +8,6 @@ use Rattle.x509_core.specs.declared.error.CertError.{CertError}
 use Rattle.x509_core.specs.declared.validator.ChainChecks.{ChainChecks}
 use Rattle.x509_core.specs.declared.window.DateCheck.TheVariants as dates
 use Rattle.ca_register.specs.Above.{above_left}
-use Rattle.ca_register.proofs.AboveCertificates.{above_are, certs_once}
-use Rattle.ca_register.proofs.Deciding.{decided_by_entries}
 use Rattle.ca_register.proofs.Yielding.{yields_rest}
 use Rattle.ca_register.proofs.verifying.verify_over.Goals as goal
 
