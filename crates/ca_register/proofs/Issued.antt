@@ -83,7 +83,7 @@ enrol_builder grant octets csr key is parent b child = record { csr = csr; is = 
 
 module _ (scheme : KeyArithmetic) (word : ℕ) (certificates : List KeptCertificate) (issuer : ℕ) (A B : KeptCertificate → CertificateBuilder → Type 0)
     (f : (parent : KeptCertificate) (b : CertificateBuilder) → A parent b → B parent b) where
-  under_other : (cert : KeptCertificate) → IsBuiltUnder scheme word certificates issuer A cert → IsBuiltUnder scheme word certificates issuer B cert
+  abbrev under_other : (cert : KeptCertificate) → IsBuiltUnder scheme word certificates issuer A cert → IsBuiltUnder scheme word certificates issuer B cert
   under_other cert under = record { parent = under.parent; has = under.has; by = record { builder = under.by.builder; is = f under.parent under.by.builder under.by.is; built = under.by.built } }
 
   pub issued_by_other : (cert : KeptCertificate) → IsIssuedCert scheme word certificates issuer A cert → IsIssuedCert scheme word certificates issuer B cert
