@@ -122,13 +122,13 @@ impl<S: Scheme + Drop> Register<S> {
             × (self.new.certificates.items ≡ self.old.certificates.items)) }
     {
         expect_issuer(&self.entries, issuer)?;
-        let builder = granted(self.alloc, grant).subject(name, public_key);
-        let parent = &self.certificates[issuer];
-        let cert = issued_cert(self.alloc, parent, issuer_key, builder, word, &self.scheme)?;
         let entry = Entry {
             issuer: Some(issuer),
             grant,
         };
+        let builder = granted(self.alloc, grant).subject(name, public_key);
+        let parent = &self.certificates[issuer];
+        let cert = issued_cert(self.alloc, parent, issuer_key, builder, word, &self.scheme)?;
         Ok(self.add(entry, cert)?)
     }
 
@@ -177,15 +177,15 @@ impl<S: Scheme + Drop> Register<S> {
     {
         expect_issuer(&self.entries, issuer)?;
         let csr = read_request(self.alloc, request)?;
+        let entry = Entry {
+            issuer: Some(issuer),
+            grant,
+        };
         let builder = granted(self.alloc, grant)
             .subject_from_csr(csr)
             .inherit_extensions_from_csr_attributes(true);
         let parent = &self.certificates[issuer];
         let cert = issued_cert(self.alloc, parent, issuer_key, builder, word, &self.scheme)?;
-        let entry = Entry {
-            issuer: Some(issuer),
-            grant,
-        };
         Ok(self.add(entry, cert)?)
     }
 }
