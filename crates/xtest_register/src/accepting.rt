@@ -19,6 +19,9 @@ fn accepts(
         return Err(Fail::from("there is no such place"));
     };
     let usable = from <= *date && *date <= to;
+    if place >= register.len() {
+        return Err(Fail::from("there is no such place"));
+    }
     let accepted = register.verify(alloc, place, date).is_ok();
     if accepted != usable {
         return Err(Fail::from("the register and the validator differ"));

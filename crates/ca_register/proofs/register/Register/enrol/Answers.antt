@@ -1,4 +1,4 @@
-use Rattle.std.proofs.Common.{true, false, [], ◌∷◌, Some, Err, inl, refl, sym, ap, subst, ◌∙◌}
+use Rattle.std.proofs.Common.{◌<◌, ℕ, true, false, [], ◌∷◌, Some, Err, inl, refl, sym, ap, subst, ◌∙◌}
 use Rattle.std.proofs.lemmas.Result.{err_from_is_err_and}
 use Rattle.der_core.specs.Steps.{IsFirstUntaken, RefusesBySteps}
 use Rattle.der_core.proofs.TakenSteps.{refused_before, refused_behind}
@@ -12,7 +12,7 @@ use Rattle.ca_register.specs.Issuing.{record_steps, request_step, signed_steps}
 use Rattle.ca_register.specs.declared.error.IssueError.{IssueError}
 use Rattle.ca_register.specs.declared.error.IssueError.TheVariants as errors
 use Rattle.ca_register.proofs.Builders.{issued_taken, taken_both}
-use Rattle.ca_register.proofs.Issued.{enrol_builder, for_inherited, for_subject, granted_for, granted_inherits, issued_by_other, issuer_has, kept_taken, kept_untaken, lent_ordered, refused_by_other, returned_key, unread_is_no_key}
+use Rattle.ca_register.proofs.Issued.{enrol_builder, for_inherited, for_subject, granted_for, granted_inherits, issued_by_other, issuer_has, issuer_within, kept_taken, kept_untaken, lent_ordered, refused_by_other, returned_key, unread_is_no_key}
 use Rattle.ca_register.proofs.Kept.{kept_child}
 use Rattle.ca_register.proofs.RecordSteps.{one_untaken, record_is_no_key, record_steps_decide, taken_untaken}
 use Rattle.ca_register.proofs.register.Register.enrol.Goals as goal
@@ -83,6 +83,12 @@ pub returns-in_err-csr-clause-paired : goal.returns-in_err-csr-clause-paired
 returns-in_err-csr-clause-paired g c = λ parent source is_parent paired is.
     let p = err_from_is_err_and c.from_residual-in_err-csr.result c.from_residual-in_err-csr.ensures.1 in
     unread_is_no_key c.args.request.now source (subst (λ (x : IssueError). RefusesBySteps errors.Memory (request_step c.args.request.now ∷ []) x) (sym p.2 ∙ returned_key c.from_residual-in_err-csr.result p.0 (errors.WrongKey source) p.1 is) c.in_err-csr.ensures)
+
+pub index-parent-requires : goal.index-parent-requires
+index-parent-requires g c =
+    let register = c.args.self.now in
+    subst (λ (n : ℕ). c.args.issuer < n) (sym register.certificates.ok.0)
+    (issuer_within (g.S.Scheme.judge register.scheme) register.entries.items register.certificates.items register.kept c.args.issuer c.deref.result.now c.deref.ensures.value c.in_ok-expect_issuer.ensures)
 
 pub issued_cert-requires-clause-unidentified : goal.issued_cert-requires-clause-unidentified
 issued_cert-requires-clause-unidentified g c = ap (λ (b : CertificateBuilder). b.authority_key_identifier) c.inherit_extensions_from_csr_attributes-builder.ensures ∙ ap (λ (b : CertificateBuilder). b.authority_key_identifier) c.subject_from_csr.ensures ∙ c.granted.ensures.rest.0
