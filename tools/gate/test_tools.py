@@ -36,7 +36,7 @@ from common.openssl import OpensslError, openssl
 from gate import run_program, unused_calls
 from golden import (
     compare_basic, compare_check, compare_readers, reader_stand_in, xgolden_basic, xgolden_check, xgolden_histories, xgolden_kept,
-    xgolden_path, xgolden_pe, xgolden_pe_image,
+    xgolden_path, xgolden_pe, xgolden_pe_image, xgolden_register,
 )
 from golden.compare_readers import Comparison, block_line, case_file, cases_of, inputs, spelled
 from golden.xgolden_der import stored_files
@@ -297,6 +297,13 @@ class IssuingHistoriesTest(unittest.TestCase):
     def test_stored_files(self):
         for path, octets in xgolden_histories.stored_files().items():
             self.assertEqual((folders.CRATES / "xgolden_histories" / path).read_bytes(), octets, path)
+
+
+class RegistersTest(unittest.TestCase):
+
+    def test_stored_files(self):
+        for path, octets in xgolden_register.stored_files().items():
+            self.assertEqual((folders.CRATES / "xgolden_register" / path).read_bytes(), octets, path)
 
 
 class SignedFilesTest(unittest.TestCase):

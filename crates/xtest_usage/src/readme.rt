@@ -5,6 +5,7 @@ mod of_asn1_types;
 mod of_authenticode_core;
 mod of_authenticode_parts;
 mod of_authenticode_signature;
+mod of_ca_register;
 mod of_cms_content;
 mod of_cms_types;
 mod of_demo_core;
