@@ -15,7 +15,7 @@ what the proved programs answer, and the verdict in one sentence.
                         that openssl verifies, else now
   --json                one JSON object on one line in place of the text
   --digest HASH         PROGRAM is the signature of a program with this digest
-  --programs FOLDER     where picky, picky_pe and picky_anchor are; else in crates/NAME/out,
+  --programs FOLDER     where picky, picky_pe, picky_ask and picky_anchor are; else in crates/NAME/out,
                         else on the PATH
   --try                 run them from their sources by `rt try`, where they aren't built: it
                         takes a minute or two, and nothing is proved

@@ -17,10 +17,10 @@ import sys
 from pathlib import Path
 
 from common import command
+from judges.asked_signatures import MICROSOFT_COUNTERSIGNATURE, UNFORMED, NotASignatureFile, signed_data_in
 from judges.chain_reader import Read, Refused
 from judges.der_reader import Constructed, read_first, write
 from judges.value_reader import dotted
-from verdict_table import MICROSOFT_COUNTERSIGNATURE, UNFORMED, NotASignatureFile, signed_data_in
 
 CERTIFICATES, UNSIGNED = 0xA0, 0xA1
 

@@ -14,9 +14,9 @@ import sys
 from pathlib import Path
 
 from common import command
+from judges.asked_signatures import NotASignatureFile
 from order_bag import with_ordered_bag
 from signed_program import NotSigned, parts, signature
-from verdict_table import NotASignatureFile
 
 
 def with_entry(program, entry):

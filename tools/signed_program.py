@@ -19,8 +19,8 @@ from pathlib import Path
 from struct import error, unpack_from
 
 from common import command
+from judges.asked_signatures import DIGESTS, UNFORMED, NotASignatureFile, content_info_in
 from judges.value_reader import dotted
-from verdict_table import DIGESTS, UNFORMED, NotASignatureFile, content_info_in
 
 CHECKSUM = 64
 # The place of the certificate table, by the magic number of the optional header: after its fixed fields, the fifth pair.

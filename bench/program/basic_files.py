@@ -8,10 +8,10 @@ from typing import NamedTuple
 sys.path.insert(0, str(Path(__file__).resolve().parents[2] / "tools"))
 
 import signed_program
-import verdict_table
 from cases.basic_making import Signed, certificate, extension, named, rsa_key
 from cases.first_path import FILE_HASH, attribute, bit_string, integer, octet_string, sequence
 from interop.signature_making import portable_executable
+from judges import asked_signatures
 from order_bag import with_ordered_bag
 
 HERE = Path(__file__).resolve().parent
@@ -182,11 +182,11 @@ def checked_case(folder):
 def case_of(folder, program):
     """The signature of a program as a case."""
     entry = signed_program.signature(program)
-    lines, _ = verdict_table.table(entry)
+    lines, _ = asked_signatures.table(entry)
     files = folder / "signature.bin", folder / "table.txt"
     files[0].write_bytes(entry)
     files[1].write_text("".join(f"{line}\n" for line in lines), encoding="ascii", newline="\n")
-    certificates, signers = verdict_table.signed_data_in(entry)
+    certificates, signers = asked_signatures.signed_data_in(entry)
     place = next(n for n, one in enumerate(certificates) if one.serial == signers[0].kids[1].kids[1].contents)
     return Case("signature", 0, *files, signed_program.image_digest(program, "sha256"), accepted(place))
 

@@ -7,7 +7,7 @@ Usage:
     python3 tools/cases/basic_world.py --check
 
 The first prints `tools/cases/world_tables.txt` anew: for each signature its label and the
-rows of the table that `verdict_table` has openssl find for it, bars between.  The
+rows of the table that `asked_signatures` has openssl find for it, bars between.  The
 second compares that file with what openssl finds.
 
 A file is asked for the digest in it.  `CHANGES` lists the octets that
@@ -23,9 +23,9 @@ sys.path.insert(0, str(Path(__file__).resolve().parents[1]))
 from cases.first_path import FILE_HASH
 from common import command, folders
 from interop.world_signatures import stored
+from judges.asked_signatures import NotASignatureFile, table
 from judges.basic_judge import answer
 from judges.der_reader import read_first
-from verdict_table import NotASignatureFile, table
 
 STORED = folders.CASES / "world_tables.txt"
 HEADER = 8

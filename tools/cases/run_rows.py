@@ -1,12 +1,12 @@
 """Rows of `xgolden_run` on failing shelves, sinks that are too small, and files at the greatest length, for all programs.
 
-A program is added by a line of `commands`.  Status and line are those of docs/MANUAL.md; that a command is accepted
+A program is added by a line of `commands`; runs of `picky_anchor` and `picky_ask` have rows of their own too.  Status and line are those of docs/MANUAL.md; that a command is accepted
 is what the rules of each program say of the files, which other rows show.
 """
 
 from dataclasses import dataclass
 
-from cases import anchor_run_rows
+from cases import anchor_run_rows, ask_run_rows
 from cases.anchor_rows import CODE, CROSS, INT, LEAF, ROOT
 from cases.anchor_run_rows import ROOM, SHELF, SINK, table_for
 from cases.check_making import file
@@ -130,6 +130,8 @@ def rows():
     """Every row, and what is printed of it."""
     for case in anchor_run_rows.all_cases():
         yield row("picky_anchor", *case[:-1])
+    for case in ask_run_rows.all_cases():
+        yield row("picky_ask", *case[:-1])
     for one in commands():
         for case in of_command(one):
             yield row(one.program, *case)

@@ -56,6 +56,16 @@ _picky_anchor() {
     esac
 }
 
+_picky_ask() {
+    if [[ $COMP_CWORD -eq 1 && $2 == -* ]]; then
+        _picky_words "$2" --chain
+    elif [[ $COMP_CWORD -eq 1 || ${COMP_WORDS[1]} == --chain ]]; then
+        _picky_files "" "$2"
+    else
+        COMPREPLY=()
+    fi
+}
+
 _check_program() {
     case $3 in
         --at) _picky_words "$2" "$(date -u +%Y-%m-%d)" ;;
@@ -77,4 +87,5 @@ _check_program() {
 complete -F _picky picky
 complete -F _picky_pe picky_pe
 complete -F _picky_anchor picky_anchor
+complete -F _picky_ask picky_ask
 complete -F _check_program check_program.py

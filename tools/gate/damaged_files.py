@@ -6,15 +6,16 @@ Usage:
     python3 tools/gate/damaged_files.py [--seed N] [--count N] [--openssl] TOOL
 
 TOOL is `verdict_table`, `order_bag`, `signed_program` or `check_program`.  The script is
-imported and its `main` is called on N files (20,000 unless said), one after another.  Each
+imported and its `main` is called on N files (20,000 unless said), one after another;
+`verdict_table` gets the lines of their questions, of which it reads no file.  Each
 call has to end with status 0, or with status 1 and one line on standard error that
-names the script and the file; one of `check_program` with a verdict of one line, by the
+names the script and the file that it reads; one of `check_program` with a verdict of one line, by the
 reference implementations in place of the programs.  Any exception is a difference, which is printed with
 the octets of the file, and makes the exit status 1.
 
 The files are signatures of the repository and of openssl and osslsigncode, with their
-programs where a program is asked for, and certificates in DER and in PEM, each with one
-that is whole.  In half of them elements are left out, repeated, exchanged, changed or
+programs where a program is asked for, and certificates in DER, each with one that is
+whole.  In half of them elements are left out, repeated, exchanged, changed or
 get another tag, with right lengths around them.  In the others octets are changed, left
 out, put in or repeated, the rest is cut off, or a tag or a length is another, one to four
 times.  Half of the signature files state their own length again after that.
@@ -28,7 +29,6 @@ import random
 import re
 import sys
 import traceback
-from base64 import encodebytes
 from collections import Counter
 from contextlib import contextmanager, redirect_stderr, redirect_stdout
 from hashlib import sha256
@@ -51,6 +51,7 @@ from common.openssl import OpensslError
 from gate.programs_stand_in import StandIn
 from golden.compare_basic import at, exchanged, mutation, places
 from interop import chains, signed_programs, world_signatures
+from judges import asked_signatures, question_judge
 from judges.der_reader import Constructed, Malformed, NotWritable, Primitive, read_first, write
 from program_check import stamps
 
@@ -65,23 +66,20 @@ SHOWN = 10
 # Files that are whole.
 
 def wrapped(kind, der):
-    """A certificate in PEM or in DER, signed data with its header."""
-    if kind == "pem":
-        return b"-----BEGIN CERTIFICATE-----\n" + encodebytes(der) + b"-----END CERTIFICATE-----\n"
+    """A certificate, or signed data with its header."""
     return signature_file(der) if kind == "signature" else der
 
 
 def certificates():
     for octets in chains.stored().values():
         yield "der", octets
-        yield "pem", octets
 
 
 def signatures():
     """Those of the repository, and those of openssl and osslsigncode that are in DER and of 16 KB at most."""
     for name in "signature.bin", "signed.bin":
         octets = (folders.CRATES / "picky/data" / name).read_bytes()
-        yield "signature", write(verdict_table.content_info_in(octets)[0])
+        yield "signature", write(asked_signatures.content_info_in(octets)[0])
     for _, kind, octets in world_signatures.stored():
         if kind == "pkcs7" and len(octets) <= 1 << 14 and not octets.startswith(INDEFINITE):
             yield "signature", octets
@@ -173,7 +171,7 @@ def file_of(chance, kind, base):
         octets = with_entry(chance, base, signature_file(restructured(chance, der))) if deep else base
     else:
         octets = wrapped(kind, restructured(chance, base) if deep else base)
-    known = [] if kind == "pem" else list(heads(octets, begin if kind == "der" else begin + 8, len(octets)))
+    known = list(heads(octets, begin if kind == "der" else begin + 8, len(octets)))
     for _ in range(changes):
         octets = damaged(chance, octets, known)
     if kind == "signature" and chance.random() < 0.5:
@@ -184,14 +182,13 @@ def file_of(chance, kind, base):
 # Calls.
 
 def words_of(chance, tool, file, folder, whole):
-    """The words for a call, with the file somewhere in them."""
+    """The words for a call, with the file somewhere in them, but for `verdict_table`: the files whose questions it reads."""
     if tool is verdict_table:
-        version = chance.choice(([], ["--version-1"]))
         if whole is None:
-            return [*version, file]
+            return [file]
         words = [file, whole]
         chance.shuffle(words)
-        return [*version, "--chain", *words, *chance.choice(([], [file]))]
+        return [*words, *chance.choice(([], [file]))]
     if tool is check_program:
         return [file, "--root", whole, "--at", "2023-06-15"]
     out = str(Path(folder, "out"))
@@ -203,7 +200,7 @@ def called(tool, words):
     """The status of a call and what it wrote to standard error, or the traceback; of `check_program` its verdict where it has one."""
     with redirect_stdout(StringIO()) as out, redirect_stderr(StringIO()) as errors:
         try:
-            status = tool.main(words)
+            status = table_for(words) if tool is verdict_table else tool.main(words)
         except SystemExit as end:
             status = end.code
         except Exception:
@@ -212,13 +209,22 @@ def called(tool, words):
     return status, verdicts[0] if len(verdicts) == 1 else errors.getvalue()
 
 
+def table_for(files):
+    """The status of `verdict_table`, of the questions about a signature file or about two certificates and more."""
+    octets = [Path(file).read_bytes() for file in files]
+    _, lines = question_judge.of_file(*octets) if len(octets) == 1 else question_judge.of_chain(octets)
+    with patch.object(sys, "stdin", StringIO(lines)):
+        return verdict_table.main([])
+
+
 def is_well(tool, file, status, said):
     """Whether a call ended as it has to."""
     if tool is check_program and status in (0, 1):
         return said.startswith("refused: " if status else "accepted: ")
     if status == 0:
         return True
-    return status == 1 and said.startswith(f"{tool.__name__}.py: {file}: ") and said.count("\n") == 1
+    named = "" if tool is verdict_table else f"{file}: "
+    return status == 1 and said.startswith(f"{tool.__name__}.py: {named}") and said.count("\n") == 1
 
 
 def in_place_of_openssl(*words, given=b""):
@@ -237,7 +243,7 @@ def files(chance, tool, count):
     both = {verdict_table: [*signatures(), *certificates()], order_bag: list(signatures()), signed_program: list(programs()), check_program: list(programs())}[tool]
     for _ in range(count):
         kind, base = chance.choice(both)
-        other = signed_programs.root() if tool is check_program else base if kind in ("der", "pem") else None
+        other = signed_programs.root() if tool is check_program else base if kind == "der" else None
         yield file_of(chance, kind, base), other
 
 

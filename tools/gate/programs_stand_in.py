@@ -6,7 +6,7 @@
 from pathlib import Path
 
 import signed_program
-from judges import chain_reader, check_judge, pe_judge
+from judges import chain_reader, check_judge, pe_judge, question_judge
 from judges.chain_reader import Read, Refused
 from judges.check_judge import Policy
 from judges.verdict_rows import verdicts
@@ -82,6 +82,8 @@ class StandIn(Programs):
 
     def run(self, program, words, shown):
         self.asked.append((program, list(map(str, words))))
+        if program == "picky_ask":
+            return Answer(program, shown, *self.questions(*words))
         line = self.line(program, list(words))
         return Answer(program, shown, 0 if line.startswith(("accepted", "anchored")) else 1, line + "\n")
 
@@ -94,6 +96,13 @@ class StandIn(Programs):
             octets = [Path(file).read_bytes() for file in files]
             return anchored_line(octets[:count], octets[count], octets[count + 1:], digits_of(date), Path(table).read_text("ascii"))
         return self.picky(*words)
+
+    @staticmethod
+    def questions(first, *files):
+        """Status and output of `picky_ask`."""
+        if first == "--chain":
+            return question_judge.of_chain([Path(file).read_bytes() for file in files])
+        return question_judge.of_file(Path(first).read_bytes())
 
     @staticmethod
     def picky(job, *words):

@@ -30,8 +30,9 @@ from gate import damaged_files
 from gate.programs_stand_in import StandIn
 from interop import signed_images, signed_programs, world_signatures
 from interop.signature_making import portable_executable
+from judges import asked_signatures, question_judge
 from judges.der_reader import Constructed, Primitive, write
-from program_check import asking, kinds, programs, reasons, stamps, text
+from program_check import anchors, asking, kinds, programs, reasons, stamps, text
 from program_check.certificate import Certificate
 from program_check.programs import Answer, Disagreement, NotChecked, Programs, Tried
 from program_check.report import Report
@@ -46,24 +47,24 @@ PE_LINE, ANCHOR_LINE, CHAIN_LINE = "accepted signer=0 path= excuse=none", "ancho
 
 # What openssl says of a signature stays: each is verified once in all these tests.
 KNOWN = {}
-VERIFIED = verdict_table.Asked.is_accepted
+VERIFIED = verdict_table.is_accepted
 
 
-def remembered(asked):
+def remembered(*asked):
     """As `is_accepted`, which starts openssl, unless something else is in its place."""
     if verdict_table.openssl is not openssl:
-        return VERIFIED(asked)
-    if asked.parts() not in KNOWN:
-        KNOWN[asked.parts()] = VERIFIED(asked)
-    return KNOWN[asked.parts()]
+        return VERIFIED(*asked)
+    if asked not in KNOWN:
+        KNOWN[asked] = VERIFIED(*asked)
+    return KNOWN[asked]
 
 
 def setUpModule():
-    verdict_table.Asked.is_accepted = remembered
+    verdict_table.is_accepted = remembered
 
 
 def tearDownModule():
-    verdict_table.Asked.is_accepted = VERIFIED
+    verdict_table.is_accepted = VERIFIED
 
 
 class Stub(StandIn):
@@ -103,7 +104,7 @@ def with_entry(program, entry):
 def with_signer(program, change):
     """A program whose first signer is another one."""
     entry = signed_program.signature(program)
-    element = verdict_table.content_info_in(entry)[0]
+    element = asked_signatures.content_info_in(entry)[0]
     signed = element.kids[1].kids[0]
     signers = signed.kids[-1]
     signed = signed._replace(kids=(*signed.kids[:-1], signers._replace(kids=(change(signers.kids[0]), *signers.kids[1:]))))
@@ -209,7 +210,7 @@ class VerdictTest(unittest.TestCase):
         """Another certificate of the signer's subject ahead of the signer's: the usages that are looked at are the signer's."""
         octets = STORED["three"].octets
         entry = signed_program.signature(octets)
-        element = verdict_table.content_info_in(entry)[0]
+        element = asked_signatures.content_info_in(entry)[0]
         signed = element.kids[1].kids[0]
         bag = signed.kids[3]
         # Its serial number is another one, so it isn't the signer's; its signature is bad.
@@ -634,16 +635,20 @@ class BuiltTest(unittest.TestCase):
 
 
 class QuestionsTest(unittest.TestCase):
-    """What is asked is what `verdict_table` asks, and the links to the roots."""
+    """What is asked is what `picky_ask` lists, of the file and of the links to the roots."""
 
     def test_questions(self):
         entry = signed_program.signature(STORED["three"].octets)
         signature = Signature(entry)
-        alone = list(verdict_table.asked_of(entry))
-        self.assertEqual(list(asking.questions(entry)), alone)
-        more = list(asking.questions(entry, signature.certificates[1:], [Certificate(signed_programs.root())]))
-        self.assertEqual([one.parts() for one in more[1:]], [one.parts() for one in alone])
-        self.assertEqual(more[0].message, signature.certificates[1].parts.tbs)
+        alone = question_judge.of_file(entry)[1].splitlines()
+        with TemporaryDirectory() as folder:
+            files = anchors.Files(Path(folder))
+            self.assertEqual(asking.questions(StandIn(), files, entry), (alone, []))
+            more, unread = asking.questions(StandIn(), files, entry, signature.certificates[1:], [Certificate(signed_programs.root())])
+            self.assertEqual((more[:len(alone)], unread), (alone, []))
+            self.assertEqual(bytes.fromhex(more[-1].split(" ")[5]), signature.certificates[1].parts.tbs)
+            none, unread = asking.questions(StandIn(), files, b"none")
+            self.assertEqual((none, unread), ([], ["picky_ask reads no signature: refused WrongLength"]))
 
 
 class DocumentedTest(unittest.TestCase):
@@ -685,7 +690,7 @@ class DocumentedTest(unittest.TestCase):
             self.assertEqual((done.returncode, done.stdout), (0, ""), page.name)
 
     def test_programs(self):
-        self.assertEqual(set(programs.ACCEPTED), {"picky", "picky_pe", "picky_anchor"})
+        self.assertEqual(set(programs.ACCEPTED), {"picky", "picky_pe", "picky_ask", "picky_anchor"})
 
 
 if __name__ == "__main__":

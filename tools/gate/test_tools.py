@@ -19,7 +19,7 @@ sys.path.insert(0, str(Path(__file__).resolve().parents[1]))
 import order_bag
 import ordered_program
 import signed_program
-import verdict_table
+from judges import asked_signatures
 from cases import basic_rows, basic_world, check_rows, demo_signatures, kept_certificates, made_signatures
 from cases.certificate_cases import (
     AGREED, AGREEMENT_KEYS, GENERATED, KEY_LABELS, LABELS, REQUESTED, SIGNING_KEYS, WRITTEN,
@@ -36,7 +36,7 @@ from common.openssl import OpensslError, openssl
 from gate import run_program, unused_calls
 from golden import (
     compare_basic, compare_check, compare_readers, reader_stand_in, xgolden_basic, xgolden_check, xgolden_histories, xgolden_kept,
-    xgolden_path, xgolden_pe, xgolden_pe_image,
+    xgolden_path, xgolden_pe, xgolden_pe_image, xgolden_register,
 )
 from golden.compare_readers import Comparison, block_line, case_file, cases_of, inputs, spelled
 from golden.xgolden_der import stored_files
@@ -252,7 +252,7 @@ class SignedProgramsTest(unittest.TestCase):
 
     def test_tables(self):
         for label, program in signed_programs.stored().items():
-            lines, _ = verdict_table.table(program.file().octets)
+            lines, _ = asked_signatures.table(program.file().octets)
             self.assertEqual(program.table.splitlines(), lines, label)
 
     def test_sample(self):
@@ -269,14 +269,14 @@ class SignedProgramsTest(unittest.TestCase):
             ordered = program.in_order().file()
             self.assertEqual(sorted(ordered.octets), sorted(program.file().octets))
             self.assertEqual(order_bag.with_ordered_bag(ordered.octets), ordered.octets)
-            self.assertEqual(set(verdict_table.table(ordered.octets)[0]), set(program.table.splitlines()), label)
+            self.assertEqual(set(asked_signatures.table(ordered.octets)[0]), set(program.table.splitlines()), label)
             entry = order_bag.with_ordered_bag(signed_program.signature(program.octets))
             self.assertEqual(ordered_program.with_entry(program.octets, entry), program.in_order().octets, label)
 
     def test_each_signature_of_an_issuer_is_asked_for_once(self):
         # Those of the token too, in which osslsigncode puts the certificate that stamps twice.
         program = signed_programs.stored()["stamped, three"].in_order().file()
-        asked = [one.what for one in verdict_table.asked_of(program.octets)]
+        asked = [one.what for one in asked_signatures.asked_of(program.octets)]
         places = [f"certificate {place} of the {where}" for where, many in (("signed data", 3), ("token", 3)) for place in range(many)]
         self.assertEqual(asked, ["the signer", *places])
 
@@ -297,6 +297,13 @@ class IssuingHistoriesTest(unittest.TestCase):
     def test_stored_files(self):
         for path, octets in xgolden_histories.stored_files().items():
             self.assertEqual((folders.CRATES / "xgolden_histories" / path).read_bytes(), octets, path)
+
+
+class RegistersTest(unittest.TestCase):
+
+    def test_stored_files(self):
+        for path, octets in xgolden_register.stored_files().items():
+            self.assertEqual((folders.CRATES / "xgolden_register" / path).read_bytes(), octets, path)
 
 
 class SignedFilesTest(unittest.TestCase):
@@ -660,13 +667,13 @@ class ChainsTest(unittest.TestCase):
     def test_a_table(self):
         certificates = chains.stored()
         labels = "by second", "second", "first", "root"
-        lines, lacking = verdict_table.chain_table([certificates[label] for label in labels])
+        lines, lacking = asked_signatures.chain_table([certificates[label] for label in labels])
         self.assertEqual([line.split()[0] for line in lines], ["p384-sha384", "p256-sha256", "rsa-sha512"])
         self.assertLessEqual(set(lines), set(chains.stored_table().splitlines()))
         self.assertEqual(lacking, [])
         # By another key than the namesake's; the second signature's number is past the namesake's modulus too (RFC 8017 5.2.2).
         for label, why in ("names another key", "not accepted"), ("no identifier", "malformed"):
-            _, lacking = verdict_table.chain_table([certificates[label], certificates["namesake"]])
+            _, lacking = asked_signatures.chain_table([certificates[label], certificates["namesake"]])
             self.assertEqual(lacking, [f"certificate 0: {why} as rsa-sha256"], label)
 
 

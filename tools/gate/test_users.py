@@ -17,12 +17,17 @@ from unittest.mock import patch
 sys.path.insert(0, str(Path(__file__).resolve().parents[1]))
 
 import order_bag
+import pool_questions
 import signed_program
 import verdict_table
 from cases import basic_world
+from common import folders
+from common.command import Refusal
 from common.openssl import OpensslError, openssl
+from gate.programs_stand_in import StandIn
 from interop import chains, signed_programs, world_signatures
 from interop.signature_making import portable_executable
+from judges import asked_signatures, question_judge
 from judges.basic_judge import answer
 from judges.der_reader import Constructed, Primitive, read_exact, write
 from judges.verdict_rows import verdicts
@@ -37,7 +42,7 @@ class VerdictTableTest(unittest.TestCase):
         return pack("<IHH", 8 + len(octets), 0x0200, 2) + octets
 
     def names(self, label):
-        lines, _ = verdict_table.table(self.signed(label))
+        lines, _ = asked_signatures.table(self.signed(label))
         return [line.split()[0] for line in lines]
 
     def test_names(self):
@@ -57,7 +62,7 @@ class VerdictTableTest(unittest.TestCase):
                 without = table.split("\n", 1)[1]
                 self.assertEqual(answer(file, bytes.fromhex(file_hash), without), "SignatureError invalid signature", label)
             if said[0].endswith(" EC"):
-                self.assertIn("the signer: no name in a table", verdict_table.table(file)[1], label)
+                self.assertIn("the signer: no name in a table", asked_signatures.table(file)[1], label)
 
     def test_stored_tables(self):
         stored = basic_world.tables()
@@ -65,22 +70,22 @@ class VerdictTableTest(unittest.TestCase):
 
     def test_a_line(self):
         octets = self.signed("program, RSA, sha256")
-        certificates, signers = verdict_table.signed_data_in(octets)
+        certificates, signers = asked_signatures.signed_data_in(octets)
         attributes = write(signers[0].kids[3])
         parts = certificates[0].key_octets(), b"\x31" + attributes[1:], signers[0].kids[5].contents
-        lines, lacking = verdict_table.table(octets)
+        lines, lacking = asked_signatures.table(octets)
         self.assertEqual(lines[0], " ".join(["rsa-sha256", *(sha256(part).hexdigest() for part in parts)]))
         self.assertEqual(lacking, [])
 
     def test_a_changed_signature(self):
         octets = self.signed("program, RSA, sha256")
-        _, signers = verdict_table.signed_data_in(octets)
+        _, signers = asked_signatures.signed_data_in(octets)
         signature = signers[0].kids[5].contents
         changed = octets.replace(signature, signature[:-1] + bytes([signature[-1] ^ 1]))
-        lines, lacking = verdict_table.table(changed)
+        lines, lacking = asked_signatures.table(changed)
         self.assertEqual([line.split()[0] for line in lines], ["rsa-sha256"])
         self.assertEqual(lacking, ["the signer: not accepted as rsa-sha256"])
-        rows, told = verdict_table.table(changed, 2)
+        rows, told = asked_signatures.table(changed, 2)
         self.assertEqual(rows[0], "picky-verdicts 2")
         self.assertEqual([row.split()[:2] for row in rows[1:]], [["reject", "rsa-sha256"], ["accept", "rsa-sha256"]])
         self.assertEqual(rows[2], f"accept {lines[0]}")
@@ -88,7 +93,7 @@ class VerdictTableTest(unittest.TestCase):
 
     def asked(self, label):
         """A signature that openssl accepts, of a stored file, by the key and the form of its algorithm."""
-        return list(verdict_table.asked_of(self.signed(label)))[-1]
+        return list(asked_signatures.asked_of(self.signed(label)))[-1]
 
     @staticmethod
     def by_new_key(digest, *words):
@@ -102,9 +107,9 @@ class VerdictTableTest(unittest.TestCase):
             else:
                 openssl("dgst", f"-{digest}", "-sign", key, "-out", signature, message)
             info = read_exact(openssl("pkey", "-in", key, "-pubout", "-outform", "DER"))
-            algorithm = verdict_table.dotted(info.kids[0].kids[0].contents)
-            holder = verdict_table.Certificate(b"", b"", b"", b"", info, algorithm, b"")
-            return verdict_table.Asked("one", holder, algorithm, digest, b"message", signature.read_bytes())
+            algorithm = asked_signatures.dotted(info.kids[0].kids[0].contents)
+            holder = asked_signatures.Certificate(b"", b"", b"", b"", info, algorithm, b"")
+            return asked_signatures.Asked("one", holder, algorithm, digest, b"message", signature.read_bytes())
 
     @staticmethod
     def order_of(curve):
@@ -184,7 +189,7 @@ class VerdictTableTest(unittest.TestCase):
             (by_key(rsa, rsa_key(512, b"\1" * 9), bytes(512)), "bad e value"),
         ):
             for version in 1, 2:
-                lines, lacking = verdict_table.table_of([one], version)
+                lines, lacking = asked_signatures.table_of([one], version)
                 self.assertEqual(lines, ["picky-verdicts 2"][:version - 1])
                 self.assertEqual(len(lacking), 1)
                 self.assertTrue(lacking[0].startswith(f"one: openssl can't verify it: {why}"), lacking)
@@ -192,7 +197,7 @@ class VerdictTableTest(unittest.TestCase):
             # For octets that are no signature of the algorithm, openssl isn't needed.
             self.assertEqual(one._replace(signature=b"\1").verdict(), "malformed")
         with patch.object(verdict_table, "openssl", side_effect=OpensslError("none", errors="no such digest\nmore\n")):
-            self.assertEqual(verdict_table.table_of([rsa]), ([], [f"{rsa.what}: openssl can't verify it: no such digest"]))
+            self.assertEqual(asked_signatures.table_of([rsa]), ([], [f"{rsa.what}: openssl can't verify it: no such digest"]))
 
     def test_verdicts(self):
         self.assertEqual(verdicts(""), {"": "accept"})
@@ -201,19 +206,19 @@ class VerdictTableTest(unittest.TestCase):
         self.assertEqual(verdicts("picky-verdicts 2\nmalformed a\naccept a\nreject b c\n"), {"a": "malformed", "b c": "reject"})
 
     def test_too_many(self):
-        one = verdict_table.signed_data_in(self.signed("program, RSA, sha256"))[0][0]
+        one = asked_signatures.signed_data_in(self.signed("program, RSA, sha256"))[0][0]
         many = [one._replace(issuer=one.subject, tbs=one.tbs + bytes([place])) for place in range(4)]
-        asked = list(verdict_table.of_certificates(many * 3, "the signed data"))
+        asked = list(asked_signatures.of_certificates(many * 3, "the signed data"))
         self.assertEqual([(known.what[:13], known.message) for known in asked], [(f"certificate {place}", many[place].tbs) for place in range(4)])
-        with patch.object(verdict_table, "MOST_ASKED", 3), patch.object(verdict_table.Asked, "is_accepted", lambda asked: True):
-            with self.assertRaises(verdict_table.TooManyAsked):
-                verdict_table.table_of(asked)
-            self.assertEqual(len(verdict_table.table_of(asked[:3] * 2)[0]), 3)
+        with patch.object(asked_signatures, "MOST_ASKED", 3), patch.object(verdict_table, "is_accepted", lambda *asked: True):
+            with self.assertRaises(asked_signatures.TooManyAsked):
+                asked_signatures.table_of(asked)
+            self.assertEqual(len(asked_signatures.table_of(asked[:3] * 2)[0]), 3)
 
     def test_no_signature_file(self):
         for octets in b"", b"\x09\0\0\0\0\2\2\0", b"\x0a\0\0\0\0\2\2\0\5\0", self.signed("cms, written in pieces"):
-            with self.assertRaises(verdict_table.NotASignatureFile):
-                verdict_table.table(octets)
+            with self.assertRaises(asked_signatures.NotASignatureFile):
+                asked_signatures.table(octets)
 
 
 @unittest.skipUnless(which("openssl"), "openssl isn't there")
@@ -239,61 +244,36 @@ class UsersToolsTest(unittest.TestCase):
     def test_damaged_signers(self):
         octets = signed_programs.stored()["stamped"].file().octets
         at = octets.rindex(bytes.fromhex("06 0a 2b 06 01 04 01 82 37 03 03 01"))
-        signer, = verdict_table.signed_data_in(octets)[1]
+        signer, = asked_signatures.signed_data_in(octets)[1]
         named = octets.rindex(write(signer.kids[1]))
         changes = [(at, 0x05), (at + 2, 0x80), (named, 0x04), (octets.rindex(write(signer)) + 4, 0x04)]
         for place, octet in changes:
             changed = octets[:place] + bytes([octet]) + octets[place + 1:]
-            for tool, words in (verdict_table, ["{}"]), (order_bag, ["{}", "/dev/null"]):
-                status, said = self.of(tool, changed, *words)
-                self.assertIn((status, said.startswith(f"{tool.__name__}.py: file: ")), [(1, True), (0, False)])
+            status, said = self.of(order_bag, changed, "{}", "/dev/null")
+            self.assertIn((status, said.startswith("order_bag.py: file: ")), [(1, True), (0, False)])
 
     def test_other_files(self):
         program = signed_programs.stored()["three"].octets
-        self.assertEqual(
-            self.of(verdict_table, program, "{}"),
-            (1, "verdict_table.py: file: it is a program, whose signature tools/signed_program.py takes out"),
-        )
-        self.assertEqual(
-            self.of(verdict_table, bytes.fromhex("3000"), "--chain", "{}"),
-            (1, "verdict_table.py: file: it isn't a certificate of a shape that is read here"),
-        )
         self.assertEqual(
             self.of(signed_program, program, "{}", "/dev/null", "shake_128"),
             (1, "signed_program.py: file: shake_128 has digests of any length"),
         )
 
-    def test_options(self):
-        """Both options in either order, and a file of no option."""
-        der = signed_programs.root()
-        with TemporaryDirectory() as folder:
-            file = Path(folder, "file")
-            file.write_bytes(der)
-            for options, lines in (["--chain"], 2), (["--pool"], 2), (["--version-1", "--chain"], 1), (["--chain", "--version-1"], 1), (["--pool", "--version-1"], 1):
-                with patch("sys.stdout", StringIO()) as out:
-                    self.assertEqual(verdict_table.main([*options, str(file), str(file)]), 0)
-                rows = out.getvalue().splitlines()
-                self.assertEqual((len(rows), rows[-1].split()[-4]), (lines, "rsa-sha256"), options)
-                self.assertEqual(self.said(verdict_table, *options)[0], 2)
-        for words in [], ["--version-1"], ["a", "b"], ["--version-1", "a", "b"], ["--chain", "--pool", "a"]:
-            self.assertEqual(self.said(verdict_table, *words)[0], 2)
-
     def test_a_pool(self):
         """The lines of a chain, whatever the order of the certificates, and that of the root over itself."""
         labels = "by second", "second", "first", "root"
         certificates = [chains.stored()[label] for label in labels]
-        chain, pool = verdict_table.chain_table(certificates, 2)[0], verdict_table.pool_table(certificates, 2)
-        self.assertEqual(pool, verdict_table.pool_table(certificates * 2, 2))
-        self.assertEqual(set(verdict_table.pool_table(certificates[::-1], 2)[0]), set(pool[0]))
+        chain, pool = asked_signatures.chain_table(certificates, 2)[0], asked_signatures.pool_table(certificates, 2)
+        self.assertEqual(pool, asked_signatures.pool_table(certificates * 2, 2))
+        self.assertEqual(set(asked_signatures.pool_table(certificates[::-1], 2)[0]), set(pool[0]))
         own, = set(pool[0]) - set(chain)
         self.assertEqual((set(chain) - set(pool[0]), pool[1], own.split()[:2]), (set(), [], ["accept", "rsa-sha256"]))
 
     def test_a_signature_in_pem(self):
         signature = signed_programs.stored()["three"].file().octets
-        pem = openssl("pkcs7", "-inform", "DER", given=write(verdict_table.content_info_in(signature)[0]))
+        pem = openssl("pkcs7", "-inform", "DER", given=write(asked_signatures.content_info_in(signature)[0]))
         why = "it is PEM; a WIN_CERTIFICATE is its header and DER, as tools/signed_program.py takes it out of a program"
         for octets in pem, b"\n" + pem, b"text\n" + pem:
-            self.assertEqual(self.of(verdict_table, octets, "{}"), (1, f"verdict_table.py: file: {why}"))
             self.assertEqual(self.of(order_bag, octets, "{}", "/dev/null"), (1, f"order_bag.py: file: {why}"))
 
     def test_certificates_that_arent_read(self):
@@ -314,12 +294,10 @@ class UsersToolsTest(unittest.TestCase):
             ):
                 key = made(folder, *words)
                 der = openssl("req", "-x509", "-new", "-key", key, "-subj", "/CN=one", "-outform", "DER", *options)
-                status, said = self.of(verdict_table, der, "--chain", "{}")
-                self.assertEqual((status, said), (1, f"verdict_table.py: file: it isn't a certificate of a shape that is read here: {why}"))
+                with self.assertRaisesRegex(asked_signatures.NotACertificate, re.escape(why)):
+                    asked_signatures.certificate_in(der)
 
     def test_missing_files(self):
-        for words in ["none"], ["--chain", "none", "other"]:
-            self.assertEqual(self.said(verdict_table, *words), (1, "verdict_table.py: none: No such file or directory"))
         for tool in order_bag, signed_program:
             self.assertEqual(self.said(tool, "none", "/dev/null"), (1, f"{tool.__name__}.py: none: No such file or directory"))
 
@@ -327,27 +305,6 @@ class UsersToolsTest(unittest.TestCase):
         one = signed_programs.stored()["three"]
         for tool, octets in (order_bag, one.file().octets), (signed_program, one.octets):
             self.assertEqual(self.of(tool, octets, "{}", "/none/out"), (1, f"{tool.__name__}.py: /none/out: No such file or directory"))
-
-    def test_pem(self):
-        der = signed_programs.root()
-        for words in [], ["-text"]:
-            pem = openssl("x509", "-inform", "DER", *words, given=der)
-            for octets in pem, pem.replace(b"\n", b"\r\n"), b"\n" + pem:
-                self.assertEqual(verdict_table.certificate_in(octets), verdict_table.certificate_in(der))
-                self.assertEqual(self.of(verdict_table, octets, "--chain", "{}"), (0, ""))
-
-    def test_other_pem(self):
-        pem = openssl("x509", "-inform", "DER", given=signed_programs.root())
-        key = openssl("genpkey", "-algorithm", "ed25519")
-        for octets, why in (
-            (pem + pem, "it is in PEM and has 2 certificates, and one is asked for"),
-            (key, "it is in PEM and has 0 certificates, and one is asked for"),
-            (pem[:-5], "its certificate in PEM has no END line"),
-            (pem.replace(b"MII", b"M-I"), "its certificate in PEM isn't base64"),
-            (pem.replace(b"MII", b"MIJ"), "it isn't one element of DER"),
-        ):
-            status, said = self.of(verdict_table, octets, "--chain", "{}")
-            self.assertEqual((status, said.startswith(f"verdict_table.py: file: {why}")), (1, True), said)
 
     def test_nothing_is_written_by_another_digest(self):
         with TemporaryDirectory() as folder:
@@ -358,8 +315,75 @@ class UsersToolsTest(unittest.TestCase):
                 self.assertFalse(entry.exists())
 
     def test_help(self):
-        for tool in verdict_table, order_bag, signed_program, signed_programs:
+        for tool in order_bag, signed_program, signed_programs:
             self.assertEqual(self.said(tool, "--help"), (0, ""))
+
+
+@unittest.skipUnless(which("openssl"), "openssl isn't there")
+class QuestionLinesTest(unittest.TestCase):
+    """The table for lines of `picky_ask`."""
+
+    FILE = (folders.CRATES / "picky/data/signed.bin").read_bytes()
+
+    @staticmethod
+    def said(lines):
+        """Status, output and standard error for these lines."""
+        with patch("sys.stdin", StringIO("".join(f"{line}\n" for line in lines))):
+            with patch("sys.stderr", StringIO()) as errors, patch("sys.stdout", StringIO()) as out:
+                return verdict_table.main([]), out.getvalue(), errors.getvalue()
+
+    def lines(self):
+        return question_judge.of_file(self.FILE)[1].splitlines()
+
+    def test_rows(self):
+        lines = self.lines()
+        rows = [f"accept {' '.join(line.split(' ')[:4])}" for line in lines]
+        self.assertEqual((len(rows), self.said(lines)), (4, (0, "".join(f"{row}\n" for row in ["picky-verdicts 2", *rows]), "")))
+        self.assertEqual(self.said(lines * 2), self.said(lines))
+        self.assertEqual(self.said([]), (0, "picky-verdicts 2\n", ""))
+
+    def test_other_lines(self):
+        first = self.lines()[0]
+        for line, why in (
+            ("refused WrongLength", "picky_ask says: refused WrongLength"), ("", "line 1 isn't that of a question"),
+            (first.rpartition(" ")[0], "line 1 isn't that of a question"), (first + " 00", "line 1 isn't that of a question"),
+            (first + "x", "line 1 isn't that of a question"), ("dsa" + first[3:], "line 1 isn't that of a question"),
+        ):
+            self.assertEqual(self.said([line]), (1, "", f"verdict_table.py: {why}\n"))
+
+    def test_one_row_and_two_verdicts(self):
+        row, octets = self.lines()[0].split(" ")[:4], self.lines()[1].split(" ")[4:]
+        other = [*octets[:2], octets[2][:-2] + "00"]
+        lines = [" ".join([*row, *octets]), " ".join([*row, *other])]
+        self.assertEqual(self.said(lines), (1, "", "verdict_table.py: question 1 has the row of an earlier one and another verdict\n"))
+
+    def test_too_many(self):
+        with patch.object(verdict_table, "MOST_ASKED", 2), patch.object(verdict_table, "is_accepted", lambda *asked: True):
+            self.assertEqual(self.said(self.lines()), (1, "", "verdict_table.py: more than 2 signatures are asked for\n"))
+            self.assertEqual(self.said(self.lines()[:2])[0], 0)
+
+    def test_damaged(self):
+        lines = [line.split(" ") for line in self.lines()]
+        for place in 4, 5, 6:
+            for octets in "", "00", lines[0][place][2:]:
+                words = [*lines[0][:place], octets, *lines[0][place + 1:]]
+                status, out, _ = self.said([" ".join(words)])
+                self.assertEqual((status, "accept" in out), (0, False))
+
+    def test_a_pool(self):
+        """The questions of a chain, whatever the order of the certificates, and that of the root over itself."""
+        certificates = [chains.stored()[label] for label in ("by second", "second", "first", "root")]
+        chain = set(question_judge.of_chain(certificates)[1].splitlines())
+        with TemporaryDirectory() as folder:
+            files = [Path(folder, str(place)) for place in range(4)]
+            for file, octets in zip(files, certificates):
+                file.write_bytes(octets)
+            found = pool_questions.questions(StandIn(), files)
+            self.assertEqual((set(pool_questions.questions(StandIn(), files[::-1])), chain - set(found)), (set(found), set()))
+            self.assertEqual(set(found) - chain, set(question_judge.of_chain([certificates[3]] * 2)[1].splitlines()))
+            files[0].write_bytes(b"none")
+            with self.assertRaisesRegex(Refusal, "is no certificate: refused Asn1Deserialization"):
+                pool_questions.questions(StandIn(), files)
 
 
 class SignedProgramTest(unittest.TestCase):

@@ -18,12 +18,12 @@ from pathlib import Path
 
 sys.path.insert(0, str(Path(__file__).resolve().parents[1]))
 
-import verdict_table
 from cases import check_rows, drawn_excuses, drawn_lists, real_policies
 from cases.basic_world import HEADER
 from common import command
 from golden import xgolden_check
 from golden.compare_basic import LONGEST, cases, changed, compare, digest_within, options
+from judges import asked_signatures
 from judges.check_judge import Policy, answer
 from judges.der_reader import Malformed, read_first
 from judges.value_reader import Shape, word
@@ -58,8 +58,8 @@ def bases():
 def accepting_table(chance, file):
     """Most of the rows of the signatures that a check of the file may ask for, whether they are good or not, in either version."""
     try:
-        asked = list(verdict_table.asked_of(file))
-    except (verdict_table.NotASignatureFile, Shape, Malformed, AttributeError, IndexError, ValueError):
+        asked = list(asked_signatures.asked_of(file))
+    except (asked_signatures.NotASignatureFile, Shape, Malformed, AttributeError, IndexError, ValueError):
         return ""
     lines = dict.fromkeys(one.line() for one in asked if one.name())
     rows = [f"{line}\n" for line in lines if chance.random() < 0.95]

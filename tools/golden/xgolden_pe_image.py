@@ -18,12 +18,12 @@ from struct import pack
 sys.path.insert(0, str(Path(__file__).resolve().parents[1]))
 
 import signed_program
-import verdict_table
 from cases.first_path import INDIRECT_DATA, SHA256, SignatureFile, identifier
 from cases.pe_rows import Image, changed
 from common import command
 from golden.stored_run import write_stored_run
 from interop.signed_images import stored
+from judges import asked_signatures
 from judges.pe_judge import bound, places
 
 MADE_AT, SIGNED_AT = "20250101000000Z", "20300101000000Z"
@@ -60,7 +60,7 @@ def made_cases():
 def signed_cases():
     """The same for those that osslsigncode signed."""
     for image in stored():
-        lines, _ = verdict_table.table(signed_program.signature(image.octets))
+        lines, _ = asked_signatures.table(signed_program.signature(image.octets))
         text = "".join(f"{line}\n" for line in lines)
         _, entry, address = places(image.octets)
         yield f"{image.label}, {image.algorithm}", image.octets, text, GOOD

@@ -35,11 +35,11 @@ from typing import NamedTuple
 
 sys.path.insert(0, str(Folder(__file__).resolve().parents[1]))
 
-import verdict_table
 from cases import drawn_anchors
 from cases.anchor_rows import CODE, NOW
 from common import command
 from interop.anchor_making import Maker, roots_world
+from judges import asked_signatures
 from judges import anchor_search
 from judges.issuing_maker import Table
 
@@ -124,8 +124,8 @@ class Files:
         self.pem = {octets: ssl.DER_cert_to_PEM_cert(octets) for octets in certificates}
         for octets, number in self.number.items():
             (folder / f"{number}.der").write_bytes(octets)
-        asked = verdict_table.of_certificates(map(verdict_table.certificate_in, certificates), "the pools")
-        self.lines, _ = verdict_table.table_of(asked, version=1)
+        asked = asked_signatures.of_certificates(map(asked_signatures.certificate_in, certificates), "the pools")
+        self.lines, _ = asked_signatures.table_of(asked, version=1)
         (folder / "table.txt").write_text("".join(f"{line}\n" for line in self.lines), encoding="ascii")
 
     def numbers(self, certificates):

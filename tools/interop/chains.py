@@ -27,10 +27,10 @@ from time import strptime
 
 sys.path.insert(0, str(Path(__file__).resolve().parents[1]))
 
-import verdict_table
 from common import command
 from common import folders
 from common.openssl import OpensslError, openssl
+from judges import asked_signatures
 from judges.chain_reader import line
 from judges.verdict_rows import verdicts
 
@@ -297,7 +297,7 @@ def table_of(certificates):
     """The rows of the signatures of all cases that openssl accepts."""
     rows = []
     for case in CASES:
-        lines, _ = verdict_table.chain_table([certificates[label] for label in case.labels])
+        lines, _ = asked_signatures.chain_table([certificates[label] for label in case.labels])
         rows += (row for row in lines if row not in rows)
     return "".join(f"{row}\n" for row in rows)
 

@@ -27,12 +27,12 @@ from typing import NamedTuple
 sys.path.insert(0, str(Path(__file__).resolve().parents[1]))
 
 import signed_program
-import verdict_table
 from common import command
 from golden.compare_basic import printed
 from interop import chains
 from interop.signed_images import PROGRAMS, stored
 from interop.signed_programs import KINDS, osslsigncode, stamping
+from judges import asked_signatures
 from judges import pe_judge
 from judges.check_judge import Policy, answer
 
@@ -150,7 +150,7 @@ def cases(files, folder):
 
 def table_of(octets):
     """The verdict table for the signature of a program."""
-    lines, _ = verdict_table.table(signed_program.signature(octets))
+    lines, _ = asked_signatures.table(signed_program.signature(octets))
     return "".join(f"{line}\n" for line in lines)
 
 

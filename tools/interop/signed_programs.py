@@ -13,7 +13,7 @@ The first prints `tools/cases/signed_programs.txt` anew: openssl (3.0 or later) 
 certificates of `KINDS`, and osslsigncode (2.6 or later) signs a program with each
 set of words in `PROGRAMS`; the stamps are its own, at a given time, or those
 of a server here that asks `openssl ts`, at the time when it is run.  A row is a
-label, the signed program in base64, and the rows of the table that `verdict_table`
+label, the signed program in base64, and the rows of the table that `asked_signatures`
 has openssl find for its signature, bars between; the first row is the root.
 
 The second compares the answer to each of `CASES`, by `check_judge`, with that of
@@ -42,7 +42,6 @@ from typing import NamedTuple
 sys.path.insert(0, str(Path(__file__).resolve().parents[1]))
 
 import signed_program
-import verdict_table
 from cases.check_making import File
 from common import command
 from common import folders
@@ -51,6 +50,7 @@ from golden.stored_run import write_stored_run
 from interop import chains
 from interop.chains import CA, END, IDENTIFIERS, OWN_IDENTIFIER, RSA, Kind, limited
 from interop.signature_making import STAMP_FORM, portable_executable
+from judges import asked_signatures
 from judges.check_judge import Policy, answer
 from judges.verdict_rows import FIRST_LINE
 from order_bag import with_ordered_bag
@@ -209,7 +209,7 @@ def made():
         yield "root", certificates["root"], ()
         for label, signing in PROGRAMS.items():
             program = signed(signing, folder)
-            lines, _ = verdict_table.table(signed_program.signature(program))
+            lines, _ = asked_signatures.table(signed_program.signature(program))
             yield label, program, lines
 
 

@@ -8,9 +8,10 @@ from dataclasses import dataclass
 from hashlib import sha256
 from typing import NamedTuple
 
+from judges.asked_signatures import ED25519, RSA, SIGNATURES, Certificate
 from judges.der_reader import Malformed, read_exact
 from judges.value_reader import Shape, certificate, dotted, inner
-from verdict_table import ED25519, NAMES, RSA, SIGNATURES, Certificate
+from verdict_table import NAMES
 
 ASKED = BASIC_CONSTRAINTS, SUBJECT_KEY, AUTHORITY_KEY = "2.5.29.19", "2.5.29.14", "2.5.29.35"
 

@@ -57,7 +57,7 @@ from judges.cms_reader import pkcs7
 from judges.der_reader import Malformed, read_exact, write
 from judges.value_reader import OTHER, Shape, dotted, name_text, shown_fault
 from judges.verdict_rows import verdicts
-from verdict_table import EC, ED25519, MICROSOFT_COUNTERSIGNATURE, RSA, SIGNATURES
+from judges.asked_signatures import EC, ED25519, MICROSOFT_COUNTERSIGNATURE, RSA, SIGNATURES
 
 TIME_STAMPING = "1.3.6.1.5.5.7.3.8"
 LIFETIME_SIGNING = "1.3.6.1.4.1.311.10.3.13"

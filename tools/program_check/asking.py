@@ -1,66 +1,66 @@
 """The verdict table for a signature and for certificates: which signatures are asked about, and openssl's verdicts.
 
-`questions` is the one place that says what is asked.  It reads the file in Python, as
-`verdict_table.py` does.  A proved program that lists the questions can take its place:
-it has to yield the same `Asked`.
+`questions` is the one place that says what is asked: `picky_ask` lists it, and nothing of
+the file is read here.
 """
 
 from typing import NamedTuple
 
 import verdict_table
 from program_check import text
-from verdict_table import SIGNATURES, Asked
+
+ASK = "picky_ask"
+# A signer's message is a SET, and a certificate's a SEQUENCE.
+OF_SIGNER = "31"
 
 
 class Table(NamedTuple):
-    """The lines of a verdict table as a text, how many signatures it is about and how many are good, and what openssl doesn't verify."""
+    """The lines of a verdict table as a text, how many signatures it is about and how many are good, what openssl doesn't verify, and whether it says of the signer's."""
 
     text: str
     counts: dict
     lacking: list
+    has_signer: bool
 
 
-def questions(entry, children=(), parents=()):
-    """Each signature that the programs may ask the table about.
+def questions(programs, files, entry, children=(), parents=()):
+    """The lines of the questions that the programs may ask the table, and why there are none about the signature.
 
-    Those of certificates by each certificate whose subject is their issuer (RFC 5280
-    4.1.1.3), and those of a signature file, where there is one; NotASignatureFile comes
-    where a part of the file isn't read, behind all others.
+    Those of certificates are asked under the key of each certificate whose subject is
+    their issuer (RFC 5280 4.1.1.3), and come behind those of the signature file.
     """
-    yield from between(children, parents)
+    asked, unread = [], []
     if entry is not None:
-        yield from verdict_table.asked_of(entry)
+        answer = programs.run(ASK, [files.of("signature.bin", entry)], ASK)
+        if answer.accepted() is None:
+            unread.append(f"{ASK} reads no signature: {answer.line()}")
+        else:
+            asked += answer.output.splitlines()
+    for child, parent in between(children, parents):
+        answer = programs.run(ASK, ["--chain", *files.certificates("asked", (child.der, parent.der))], ASK)
+        if answer.accepted() is None:
+            unread.append(f"{ASK} reads no certificate '{child.called()}' or '{parent.called()}': {answer.line()}")
+        else:
+            asked += answer.output.splitlines()
+    return asked, unread
 
 
 def between(children, parents):
-    """The signature of each certificate by each of the others that has its issuer's name."""
-    for child in children:
-        algorithm, digest = SIGNATURES.get(child.parts.algorithm, (None, None))
-        for parent in parents:
-            if parent.parts.subject == child.parts.issuer:
-                yield Asked(f"the certificate {child.called()}", parent.parts, algorithm, digest, child.parts.tbs, child.parts.signature)
+    """Each certificate, with each of the others that has its issuer's name."""
+    return [(child, parent) for child in children for parent in parents if parent.parts.subject == child.parts.issuer]
 
 
-def made(entry, children=(), parents=(), progress=lambda words: None):
-    """The table; TooManyAsked where there is none."""
-    asked, unread = [], []
-    try:
-        for one in questions(entry, children, parents):
-            asked.append(one)
-    except verdict_table.NotASignatureFile as refusal:
-        unread.append(f"not all of the signature is read: {refusal}")
+def made(programs, files, entry, children=(), parents=(), progress=lambda words: None):
+    """The table; NoTable where there is none."""
+    asked, unread = questions(programs, files, entry, children, parents)
     progress(f"openssl verifies {text.counted(len(asked), 'signature')}")
-    lines, lacking = verdict_table.table_of(asked, 2)
+    lines, lacking = verdict_table.table_of(dict.fromkeys(asked))
     counts = {"asked": len(lines) - 1, "good": sum(line.startswith("accept ") for line in lines)}
-    return Table("".join(f"{line}\n" for line in lines), counts, [*unread, *lacking])
+    rows = {line.partition(" ")[2] for line in lines}
+    return Table("".join(f"{line}\n" for line in lines), counts, [*unread, *lacking], any(is_of_signer(line, rows) for line in asked))
 
 
-def verdict_on_signer(entry):
-    """The verdict of openssl on the signer's own signature; None where it has no line."""
-    one = next(iter(verdict_table.asked_of(entry)), None)
-    if one is None or one.what != "the signer" or one.name() is None:
-        return None
-    try:
-        return one.verdict()
-    except verdict_table.NotJudged:
-        return None
+def is_of_signer(line, rows):
+    """Whether a question is about a signer, and has a row."""
+    words = line.split(" ")
+    return words[5].startswith(OF_SIGNER) and " ".join(words[:4]) in rows

@@ -4,10 +4,10 @@ from functools import cached_property
 from hashlib import sha1, sha256
 
 from judges import chain_reader
+from judges.asked_signatures import EC, RSA
 from judges.der_reader import Malformed, read_exact
 from judges.value_reader import Shape, dotted, inner
 from program_check import text
-from verdict_table import EC, RSA
 
 EXTENDED_KEY_USAGE = "2.5.29.37"
 CODE_SIGNING, TIME_STAMPING, LIFETIME_SIGNING = "1.3.6.1.5.5.7.3.3", "1.3.6.1.5.5.7.3.8", "1.3.6.1.4.1.311.10.3.13"

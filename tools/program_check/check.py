@@ -11,13 +11,14 @@ from tempfile import TemporaryDirectory
 from typing import NamedTuple
 
 import signed_program
+from judges.asked_signatures import DIGESTS, NotASignatureFile
 from ordered_program import with_entry
 from program_check import anchors, asking, explain, kinds, notes, reasons, stamps, text
 from program_check.certificate import LIFETIME_SIGNING
 from program_check.programs import Disagreement, NotChecked
 from program_check.report import Report
 from program_check.signature import Signature, further_entries
-from verdict_table import DIGESTS, NotASignatureFile, TooManyAsked
+from verdict_table import NoTable
 
 MOST_OCTETS = 16_777_216
 NO_CHAIN = "--no-chain"
@@ -75,7 +76,7 @@ class Check:
     def __init__(self, question, report, files):
         self.question, self.report, self.files = question, report, files
         self.programs = question.programs
-        self.file = None
+        self.file, self.has_signer = None, False
 
     def run(self):
         octets = read_most(self.question.file)
@@ -213,9 +214,11 @@ class Check:
         signature = subject.signature
         children = [signature.certificates[index], *pool] if index is not None else []
         try:
-            table = asking.made(subject.entry, children, [*pool, *(root.certificate for root in roots)], self.question.progress)
-        except TooManyAsked as refusal:
+            parents = [*pool, *(root.certificate for root in roots)]
+            table = asking.made(self.programs, self.files, subject.entry, children, parents, self.question.progress)
+        except NoTable as refusal:
             raise NotChecked(2, f"no table is made for the file: {refusal}") from refusal
+        self.has_signer = table.has_signer
         self.report.signatures = table.counts
         self.report.notes += [f"in the table: {text.clean(one)}" for one in table.lacking]
         return self.files.of("table.txt", table.text.encode("ascii"))
@@ -307,7 +310,7 @@ class Check:
         index, *_, date = asked
         certificates = subject.signature.certificates
         words = explain.words_of([certificates[index]], 0, date) if index is not None else {}
-        sentence, then = reasons.of_signers_signature(subject, index) if name == "SignatureError" else reasons.of(name, words)
+        sentence, then = reasons.of_signers_signature(subject, index, self.has_signer) if name == "SignatureError" else reasons.of(name, words)
         self.report.refuse(sentence, then, name)
 
     def refuse_path(self, subject, asked):

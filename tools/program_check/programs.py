@@ -1,6 +1,6 @@
 """The proved programs: where they are, how they are called, and what they may answer.
 
-A program ends with status 0 or 1 and prints one line, or ends with a status that its
+A program ends with status 0 or 1 and prints one line, `picky_ask` a line a question, or ends with a status that its
 manual names and prints nothing (docs/MANUAL.md, "Exit statuses").  Anything else is a
 `Disagreement`: then nothing is accepted.
 """
@@ -18,6 +18,7 @@ from common import command, folders
 ACCEPTED = {
     "picky": r"accepted (?:parents=(?P<parents>\d+)|signer=(?P<signer>\d+) path=(?P<path>[\d,]*) excuse=(?P<excuse>none|bag|token))\n",
     "picky_pe": r"accepted signer=(?P<signer>\d+) path=(?P<path>[\d,]*) excuse=(?P<excuse>none|bag|token)\n",
+    "picky_ask": r"(?:[a-z0-9-]+(?: [0-9a-f]{64}){3}(?: [0-9a-f]*){3}\n)*",
     "picky_anchor": r"anchored pool=(?P<pool>[\d,]*) anchor=(?P<anchor>\d+)\n",
 }
 REFUSED = re.compile(r"refused (?P<name>[A-Za-z0-9]+(?::[A-Za-z0-9]+)*)\n")

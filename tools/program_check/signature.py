@@ -7,12 +7,12 @@ from struct import error, unpack_from
 from typing import NamedTuple
 
 from judges import chain_reader
+from judges.asked_signatures import DIGESTS, MICROSOFT_COUNTERSIGNATURE, UNFORMED, NotASignatureFile, content_info_in
 from judges.der_reader import Constructed, Malformed, Primitive, read_exact, write
 from judges.value_reader import dotted
 from order_bag import replaced
 from program_check import text
 from program_check.certificate import Certificate
-from verdict_table import DIGESTS, MICROSOFT_COUNTERSIGNATURE, UNFORMED, NotASignatureFile, content_info_in
 
 INDIRECT_DATA = "1.3.6.1.4.1.311.2.1.4"
 COUNTERSIGNATURE = "1.2.840.113549.1.9.6"

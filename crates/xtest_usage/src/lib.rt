@@ -6,6 +6,8 @@
 #[cfg(test)]
 mod algorithms;
 #[cfg(test)]
+mod asking;
+#[cfg(test)]
 mod certificates;
 #[cfg(test)]
 mod counting;

@@ -1,0 +1,12 @@
+use Rattle.question_walk.specs.Ahead.{AreAhead}
+use Rattle.ask_program.proofs.WrittenLines.{all_written, more_written, none_written}
+use Rattle.ask_program.proofs.lines.lines_of.Goals as goal
+
+pub loop-question-init : goal.loop-question-init
+loop-question-init c = none_written _ _ c.new-lines.ensures
+
+pub loop-question-preserved : goal.loop-question-preserved
+loop-question-preserved c = more_written _ _ _ _ _ _ c.loop-question.invariant c.in-Some.ensures.next c.in_ok-write_line.ensures
+
+pub returns : goal.returns
+returns c = all_written (AreAhead c.args.questions) (AreAhead c.loop-question.questions) _ c.loop-question.invariant c.in_default.ensures.next

@@ -1,0 +1,15 @@
+mod Dates
+mod Lines
+mod Records
+mod Registers
+mod Walking
+mod AboveCertificates
+mod Children
+mod Builders
+mod Usability
+mod Kept
+mod Yielding
+mod Deciding
+mod RecordSteps
+mod Issued
+mod Verdicts

@@ -1,0 +1,3 @@
+-- Promises, which public contracts cite.
+pub mod Lines
+pub mod Held

@@ -1,0 +1,90 @@
+//! Parsing the calls of a row.
+
+use anyhow::{Context, Result, bail};
+use asn1_types::GeneralizedTime;
+use ca_register::Grant;
+use names_core::UtcDate;
+use std::alloc::Global;
+
+/// What is issued.
+#[derive(Clone, Copy)]
+pub enum Kind {
+    Root,
+    Child,
+    /// For a request that is signed by its own key.
+    Request,
+    /// For a request that isn't.
+    Unsigned,
+    /// For octets that are no request.
+    Unread,
+}
+
+/// A call of a register.
+#[derive(Clone, Copy)]
+pub struct Call {
+    pub kind: Kind,
+    /// The place of the issuer; 0 of a root.
+    pub issuer: usize,
+    /// The number of the key that signs.
+    pub signer: u32,
+    pub grant: Grant,
+}
+
+/// Calls, separated by spaces.
+pub fn calls_of(alloc: Global, words: &str) -> Result<Vec<Call>> {
+    let mut calls = Vec::new(alloc);
+    for word in words.split(' ') {
+        let parts: Vec<&str> = word.split(',').collect(alloc)?;
+        calls.push(call_of(parts.as_slice())?)?;
+    }
+    Ok(calls)
+}
+
+fn call_of(parts: &[&str]) -> Result<Call> {
+    let [kind, issuer, signer, flag, length, first, last] = parts else {
+        bail!("a call has seven parts");
+    };
+    Ok(Call {
+        kind: kind_of(kind)?,
+        issuer: issuer.parse()?,
+        signer: signer.parse()?,
+        grant: Grant {
+            ca: flag_of(flag)?,
+            path_length: length_of(length)?,
+            from: date_of(first)?,
+            to: date_of(last)?,
+        },
+    })
+}
+
+fn kind_of(word: &str) -> Result<Kind> {
+    match word {
+        "root" => Ok(Kind::Root),
+        "child" => Ok(Kind::Child),
+        "request" => Ok(Kind::Request),
+        "unsigned" => Ok(Kind::Unsigned),
+        "unread" => Ok(Kind::Unread),
+        _ => bail!("no kind is written so"),
+    }
+}
+
+fn length_of(word: &str) -> Result<Option<u8>> {
+    if word == "-" {
+        return Ok(None);
+    }
+    Ok(Some(word.parse()?))
+}
+
+fn flag_of(word: &str) -> Result<bool> {
+    match word {
+        "ca" => Ok(true),
+        "end" => Ok(false),
+        _ => bail!("no flag is written so"),
+    }
+}
+
+/// The moment by the contents of its GeneralizedTime.
+pub fn date_of(word: &str) -> Result<UtcDate> {
+    let time = GeneralizedTime::from_content(word.as_bytes());
+    Ok(UtcDate::from(time.context("no moment is written so")?))
+}
