@@ -30,6 +30,8 @@ from common import command
 from gate import run_program
 
 SECONDS = 60
+# A demonstration asks for memory some 170 times a step.
+MOST_STEPS = 10
 NO_MEMORY = (7, b"")
 
 LIBRARY = r"""
@@ -72,7 +74,8 @@ def rows(name):
     if name == "picky":
         wanted = {}
         for row in run_program.ROWS:
-            if row.output == "read" and row.given == b"" and row.status in (0, 1, 3):
+            is_long = row.words[:1] == ("demo",) and row.status == 0 and int(row.words[1]) > MOST_STEPS
+            if row.output == "read" and row.given == b"" and row.status in (0, 1, 3) and not is_long:
                 wanted.setdefault((row.words[0], row.status, row.line), row)
         yield from wanted.values()
     for one in run_rows.commands():

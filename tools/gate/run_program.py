@@ -685,14 +685,15 @@ ISSUED_ROWS = [
 
 
 
-def demonstrated(count, output="read"):
+def demonstrated(count, output="read", again=""):
     """A row of a demonstration of so many steps. No file is there."""
     status, line = (0, f"{demo_maker.line(count)}\n") if output == "read" else (5, "")
-    return Row(f"a demonstration of {count} steps, {output}", ("demo", str(count)), status, line, {}, output=output)
+    return Row(f"a demonstration of {count} steps, {output}{again}", ("demo", str(count)), status, line, {}, output=output)
 
 
 DEMO_ROWS = [
-    *map(demonstrated, (1, 2, 3, 9, 10, 99, 100, 199, 200, 200)),
+    *map(demonstrated, (1, 2, 3, 9, 10, 99, 100, 199, 200)),
+    demonstrated(200, again=", once more"),
     *(demonstrated(2, output) for output in ("full", "closed", "unread", "reading")),
     Row("a demonstration without standard input", ("demo", "1"), 0, f"{demo_maker.line(1)}\n", {}, given=None),
     *(Row(f"a demonstration of {word!r} steps", ("demo", word), 2, files={}) for word in (
