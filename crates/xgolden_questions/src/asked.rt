@@ -104,20 +104,17 @@ fn policy_of<'a>(
     file_hash: Option<Octets>,
     date: &str,
 ) -> Result<Policy<'a>> {
-    Ok(Policy {
-        basic: choice & 1 != 0,
-        file_hash,
-        signing: choice & 2 != 0,
-        not_before: choice & 4 != 0,
-        not_after: choice & 8 != 0,
-        chain: choice & 16 != 0,
-        date: DateCheck::Exact(date_of(date)?),
-        against_list: false,
-        list: None,
-        now: 0,
-        exclude: false,
-        excluded: Vec::new(alloc),
-    })
+    let mut policy = Policy::new(alloc);
+    policy.basic = choice & 1 != 0;
+    policy.file_hash = file_hash;
+    policy.signing = choice & 2 != 0;
+    policy.not_before = choice & 4 != 0;
+    policy.not_after = choice & 8 != 0;
+    policy.chain = choice & 16 != 0;
+    policy.date = DateCheck::Exact(date_of(date)?);
+    policy.against_list = false;
+    policy.exclude = false;
+    Ok(policy)
 }
 
 fn date_of(word: &str) -> Result<UtcDate> {
