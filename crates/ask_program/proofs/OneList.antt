@@ -46,7 +46,7 @@ all_once Has unique qs rs (inl (bag, child, places, has, are)) (inl (other, firs
     links_once bag child places qs rs are (moved_list other bag first child indices places rs one.0 one.1 one.2 owned)
 all_once Has unique qs rs (inl (bag, child, places, has, are)) (inr (none, empty)) = absurd (none bag child places has)
 all_once Has unique qs rs (inr (none, empty)) (inl (bag, child, places, has, are)) = absurd (none bag child places has)
-all_once Has unique qs rs (inr (none, empty)) (inr (no, nothing)) = empty ∙ sym nothing
+all_once Has unique qs rs (inr (none, empty)) (inr (never, nothing)) = empty ∙ sym nothing
 
 pub questions_once : (f : SignedDataElements) (qs rs : List Question) → AreQuestions f qs → AreQuestions f rs → qs ≡ rs
 questions_once f qs rs a b =

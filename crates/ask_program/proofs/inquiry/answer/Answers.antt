@@ -1,4 +1,4 @@
-use Rattle.std.proofs.Common.{List, ℕ, Err, length, map, ap, subst, ◌∙◌, arith, Vec, Global}
+use Rattle.std.proofs.Common.{◌++◌, List, ℕ, Err, length, map, ap, subst, ◌∙◌, arith, Vec, Global}
 use Rattle.std.proofs.lemmas.Result.{err_from_is_err_and}
 use Rattle.program_frame.specs.ReadFiles.{AreRead, AreUnread}
 use Rattle.program_frame.specs.Stops.{stop_for_file}
@@ -29,12 +29,14 @@ pub report_on-requires-clause-as_many : goal.report_on-requires-clause-as_many
 report_on-requires-clause-as_many g c =
     let read = c.in_ok-read_all.ensures.read in
     let whole = subst (λ (names : List (List ℕ)). AreRead (g.F.Shelf.state c.args.shelf.now) (g.F.Shelf.state c.read_all.new.shelf) names read.0) c.files.ensures read.2 in
+    let read_is = read.1 ∙ ap (λ (vs : List (Vec ℕ Global)). map (λ (v : Vec ℕ Global). v.items) vs ++ read.0) c.new-contents.ensures.items in
     let same = as_many _ (files_of (job_held c.args.job.now)) read.0 whole.are_files in
-    omega (arith, same, ap length read.1, length-map c.read_all.new.contents.items (λ (v : Vec ℕ Global). v.items), ap length c.deref.ensures.value)
+    omega (arith, same, ap length read_is, length-map c.read_all.new.contents.items (λ (v : Vec ℕ Global). v.items), ap length c.deref.ensures.value)
 
 pub returns-clause-found : goal.returns-clause-found
 returns-clause-found g c =
     let read = c.in_ok-read_all.ensures.read in
     let whole = subst (λ (names : List (List ℕ)). AreRead (g.F.Shelf.state c.args.shelf.now) (g.F.Shelf.state c.read_all.new.shelf) names read.0) c.files.ensures read.2 in
+    let read_is = read.1 ∙ ap (λ (vs : List (Vec ℕ Global)). map (λ (v : Vec ℕ Global). v.items) vs ++ read.0) c.new-contents.ensures.items in
     reported (g.F.Shelf.state c.args.shelf.now) (g.F.Shelf.state c.read_all.new.shelf) (job_held c.args.job.now) _ read.0 c.report_on.result
-    (ap (map (λ (v : Vec ℕ Global). v.items)) c.deref.ensures.value ∙ read.1) whole c.report_on.ensures
+    (ap (map (λ (v : Vec ℕ Global). v.items)) c.deref.ensures.value ∙ read_is) whole c.report_on.ensures

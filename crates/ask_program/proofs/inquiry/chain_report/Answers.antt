@@ -1,4 +1,4 @@
-use Rattle.std.proofs.Common.{map, inl, refl, sym, ap, subst, ◌∙◌, List, arith, ℕ, Vec, Global}
+use Rattle.std.proofs.Common.{◌++◌, map, inl, refl, sym, ap, subst, ◌∙◌, List, arith, ℕ, Vec, Global}
 use Rattle.std.proofs.lemmas.Result.{err_from_is_err_and}
 use Rattle.x509_core.specs.KeptCertificate.{KeptCertificate}
 use Rattle.ask_program.specs.Commands.{AreKeptCertificates, IsChainLine}
@@ -21,6 +21,7 @@ returns c =
     let read = c.in_default.ensures.read in
     let lines = c.in_ok-chain_lines_of.ensures in
     let held = first_and_others c.as_slice.result.now c.checked-item.result c.in-len1-up.len_at_least c.checked-item.is in
-    let are = subst (λ (cs : List KeptCertificate). AreKeptCertificates octets cs) (sym read.1 ∙ sym c.as_slice.ensures.value ∙ held) read.2 in
+    let empty = ap (λ (cs : List KeptCertificate). cs ++ read.0) c.new-certificates.ensures.items in
+    let are = subst (λ (cs : List KeptCertificate). AreKeptCertificates octets cs) (sym empty ∙ sym read.1 ∙ sym c.as_slice.ensures.value ∙ held) read.2 in
     line_reports (IsChainLine octets) (chain_line_once octets) _ (omega arith)
     (inl (_, _, are, record { questions = lines.0; are = c.of.ensures lines.0 lines.1; status = refl; text = lines.2 }))

@@ -3,7 +3,7 @@ use Rattle.ask_program.proofs.WrittenLines.{all_written, more_written, none_writ
 use Rattle.ask_program.proofs.lines.lines_of.Goals as goal
 
 pub loop-question-init : goal.loop-question-init
-loop-question-init c = none_written _ _ c.new-lines.ensures
+loop-question-init c = none_written _ _ c.new-lines.ensures.bytes
 
 pub loop-question-preserved : goal.loop-question-preserved
 loop-question-preserved c = more_written _ _ _ _ _ _ c.loop-question.invariant c.in-Some.ensures.next c.in_ok-write_line.ensures
