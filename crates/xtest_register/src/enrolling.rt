@@ -44,7 +44,7 @@ fn refuses_octets_that_are_no_request(rt: HostRuntime) -> Result<(), Fail> {
     let refused = register.enrol(0, &key, &[0x30, 0x00], of_device, 7);
     assert!(rt;
         matches!(
-            refused,
+            &refused,
             Err(IssueError::Request(CsrError::Asn1Deserialization {
                 source: DerError::Shape,
                 ..
@@ -54,7 +54,7 @@ fn refuses_octets_that_are_no_request(rt: HostRuntime) -> Result<(), Fail> {
     // that the issuer is no CA is found first
     let leaf_key = key_of(rt.alloc(), 19)?;
     let also = register.enrol(2, &leaf_key, &[0x30, 0x00], of_device, 7);
-    assert!(rt; matches!(also, Err(IssueError::NotCa)));
+    assert!(rt; matches!(&also, Err(IssueError::NotCa)));
     assert_eq!(rt; register.len(), 3);
     Ok(())
 }
@@ -71,7 +71,7 @@ fn refuses_a_request_signed_by_another_key(rt: HostRuntime) -> Result<(), Fail> 
     let refused = register.enrol(0, &key, &request, of_device, 7);
     assert!(rt;
         matches!(
-            refused,
+            &refused,
             Err(IssueError::Build(CertError::InvalidCsr {
                 source: CsrError::Signature {
                     source: SignatureError::BadSignature
@@ -93,7 +93,7 @@ fn refuses_the_request_before_the_key(rt: HostRuntime) -> Result<(), Fail> {
     let by_other = register.enrol(0, &other, &request, of_device, 7);
     assert!(rt;
         matches!(
-            by_other,
+            &by_other,
             Err(IssueError::WrongKey(SignatureError::BadSignature))
         )
     );
@@ -102,7 +102,7 @@ fn refuses_the_request_before_the_key(rt: HostRuntime) -> Result<(), Fail> {
     let refused = register.enrol(0, &other, &request, of_device, 7);
     assert!(rt;
         matches!(
-            refused,
+            &refused,
             Err(IssueError::Build(CertError::InvalidCsr { .. }))
         )
     );

@@ -18,7 +18,7 @@ fn refuses_a_root_that_is_no_ca(rt: HostRuntime) -> Result<(), Fail> {
     let key = key_of(rt.alloc(), 17)?;
     let name = name_of(rt.alloc(), "R")?;
     let refused = register.root(name, &key, grant(false, None, (2020, 2030))?, 1);
-    assert!(rt; matches!(refused, Err(IssueError::NotCa)));
+    assert!(rt; matches!(&refused, Err(IssueError::NotCa)));
     assert!(rt; is_as_before(&register, 1));
     Ok(())
 }
@@ -28,7 +28,7 @@ fn refuses_an_issuer_that_is_none(rt: HostRuntime) -> Result<(), Fail> {
     let mut register = with_leaf(rt.alloc())?;
     let of_child = grant(false, None, (2022, 2023))?;
     let refused = child(rt.alloc(), &mut register, (3, 17), ("X", 20), of_child)?;
-    assert!(rt; matches!(refused, Err(IssueError::NoIssuer { issuer: 3, len: 3 })));
+    assert!(rt; matches!(&refused, Err(IssueError::NoIssuer { issuer: 3, len: 3 })));
     assert!(rt; is_as_before(&register, 3));
     Ok(())
 }
@@ -39,7 +39,7 @@ fn refuses_an_issuer_that_is_no_ca(rt: HostRuntime) -> Result<(), Fail> {
     let of_child = grant(false, None, (2022, 2023))?;
     let refused = child(rt.alloc(), &mut register, (2, 19), ("X", 20), of_child)?;
     // the intermediate's path length is too short as well
-    assert!(rt; matches!(refused, Err(IssueError::NotCa)));
+    assert!(rt; matches!(&refused, Err(IssueError::NotCa)));
     assert!(rt; is_as_before(&register, 3));
     Ok(())
 }
@@ -51,10 +51,10 @@ fn refuses_a_path_that_is_too_deep(rt: HostRuntime) -> Result<(), Fail> {
     let middle = child(rt.alloc(), &mut register, (1, 18), ("M", 20), of_middle)??;
     let of_child = grant(false, None, (2022, 2023))?;
     let refused = child(rt.alloc(), &mut register, (middle, 20), ("X", 21), of_child)?;
-    assert!(rt; matches!(refused, Err(IssueError::TooDeep { ancestor: 1 })));
+    assert!(rt; matches!(&refused, Err(IssueError::TooDeep { ancestor: 1 })));
     // a key that isn't the issuer's is found later
     let also = child(rt.alloc(), &mut register, (middle, 17), ("X", 21), of_child)?;
-    assert!(rt; matches!(also, Err(IssueError::TooDeep { ancestor: 1 })));
+    assert!(rt; matches!(&also, Err(IssueError::TooDeep { ancestor: 1 })));
     assert!(rt; is_as_before(&register, 4));
     Ok(())
 }
@@ -82,7 +82,7 @@ fn allows_as_many_as_the_path_length(rt: HostRuntime) -> Result<(), Fail> {
         4
     );
     let refused = child(rt.alloc(), &mut register, (4, 21), ("E", 22), free)?;
-    assert!(rt; matches!(refused, Err(IssueError::TooDeep { ancestor: 3 })));
+    assert!(rt; matches!(&refused, Err(IssueError::TooDeep { ancestor: 3 })));
     Ok(())
 }
 
@@ -93,7 +93,7 @@ fn refuses_the_key_of_another(rt: HostRuntime) -> Result<(), Fail> {
     let refused = child(rt.alloc(), &mut register, (1, 17), ("X", 20), of_child)?;
     assert!(rt;
         matches!(
-            refused,
+            &refused,
             Err(IssueError::WrongKey(SignatureError::BadSignature))
         )
     );
@@ -118,7 +118,7 @@ fn refuses_what_is_not_built(rt: HostRuntime) -> Result<(), Fail> {
     let public = key_of(rt.alloc(), 18)?.to_public_key(rt.alloc())?;
     let name = name_of(rt.alloc(), "X")?;
     let refused = register.child(0, &key, name, public, of_child, 2);
-    assert!(rt; matches!(refused, Err(IssueError::Build(_))));
+    assert!(rt; matches!(&refused, Err(IssueError::Build(_))));
     assert!(rt; is_as_before(&register, 1));
     Ok(())
 }
