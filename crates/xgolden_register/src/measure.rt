@@ -38,7 +38,7 @@ pub fn print_times(
     let mut accepted = 0usize;
     for place in 0..register.len() {
         if register.verify(alloc, place, &date).is_ok() {
-            accepted += 1;
+            accepted = accepted.wrapping_add(1);
         }
     }
     let verified = clock.thread_cpu_time()?;
