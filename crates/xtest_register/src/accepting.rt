@@ -39,7 +39,7 @@ fn accepted(
     let mut count = 0usize;
     for place in 0..register.len() {
         if accepts(alloc, register, place, &date)? {
-            count += 1;
+            count = count.wrapping_add(1);
         }
     }
     Ok(count)

@@ -19,6 +19,13 @@ fn request_of(alloc: Global, modulus: u8) -> Result<Vec<u8>, Fail> {
     Ok(csr.to_der(alloc)?)
 }
 
+/// Changes the last octet, one of the signature.
+fn change_last(request: &mut [u8]) {
+    if let Some(last) = request.last_mut() {
+        *last = !*last;
+    }
+}
+
 #[test]
 fn enrols_a_device(rt: HostRuntime) -> Result<(), Fail> {
     let mut register = with_root(rt.alloc())?;
@@ -64,9 +71,7 @@ fn refuses_a_request_signed_by_another_key(rt: HostRuntime) -> Result<(), Fail> 
     let mut register = with_root(rt.alloc())?;
     let key = key_of(rt.alloc(), 17)?;
     let mut request = request_of(rt.alloc(), 33)?;
-    // the last octet is one of the signature
-    let last = request.len() - 1;
-    request[last] = !request[last];
+    change_last(&mut request);
     let of_device = grant(false, None, (2024, 2025))?;
     let refused = register.enrol(0, &key, &request, of_device, 7);
     assert!(rt;
@@ -97,8 +102,7 @@ fn refuses_the_request_before_the_key(rt: HostRuntime) -> Result<(), Fail> {
             Err(IssueError::WrongKey(SignatureError::BadSignature))
         )
     );
-    let last = request.len() - 1;
-    request[last] = !request[last];
+    change_last(&mut request);
     let refused = register.enrol(0, &other, &request, of_device, 7);
     assert!(rt;
         matches!(
