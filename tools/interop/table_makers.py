@@ -1,5 +1,5 @@
 #!/usr/bin/env python3
-"""Compare three makers of verdict tables for the questions of `picky_ask`, on all files that the tools know.
+"""Compare three makers of verdict tables for the questions of `picky_ask`, on signature files that the tools know.
 
 Usage:
 

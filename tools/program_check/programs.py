@@ -105,7 +105,7 @@ class Programs:
             if Path(place).is_file() and os.access(place, os.X_OK):
                 return Path(place).resolve()
         raise NotThere(
-            f"the program {program} isn't built: --try runs it from its sources, unproved, in a minute or two; `.ci/run` builds all of them, "
+            f"the program {program} isn't built: --try runs it from its sources, unproved, in some minutes; `.ci/run` builds all of them, "
             f"`rt run` in crates/{program} that one; or name the folder that has it, by --programs FOLDER or {VARIABLE}")
 
     def run(self, program, words, shown):
@@ -129,7 +129,7 @@ class Tried(Programs):
 
     proved = False
     quick = False
-    progress = "`rt try` compiles the programs and calls them, in a minute or two"
+    progress = "`rt try` compiles the programs and calls them, in some minutes"
 
     def __init__(self):
         super().__init__()
