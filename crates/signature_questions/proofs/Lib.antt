@@ -5,3 +5,17 @@ pub mod Chains
 pub mod Members
 pub mod Tables
 pub mod Listing
+pub mod BorrowedKeys
+pub mod BorrowedAlgorithms
+pub mod Messages
+pub mod OneQuestion
+pub mod Walk
+pub mod ReadCertificates
+pub mod AskedWords
+pub mod OnePlace
+pub mod OneList
+pub mod Reported
+pub mod WrittenLines
+pub mod ReadCauses
+pub mod OneLine
+pub mod LineReports
