@@ -4,6 +4,7 @@ pub mod Agreed
 pub mod Chains
 pub mod Members
 pub mod Tables
+pub mod OnePlace
 pub mod Listing
 pub mod BorrowedKeys
 pub mod BorrowedAlgorithms
@@ -12,7 +13,6 @@ pub mod OneQuestion
 pub mod Walk
 pub mod ReadCertificates
 pub mod AskedWords
-pub mod OnePlace
 pub mod OneList
 pub mod Reported
 pub mod WrittenLines
