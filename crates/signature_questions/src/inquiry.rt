@@ -15,11 +15,11 @@ ghost use Rattle.signature_questions.specs.Words.{AsksFor, AsksForNothing, Job a
 use crate::chain_questions::ChainQuestions;
 use crate::lines::{chain_lines_of, lines_of};
 use crate::questions::questions_of;
-use crate::reading::{read_all, read_certificates};
+use crate::reading::read_certificates;
 use crate::words::{Job, job_of};
 use authenticode_core::CheckError;
 use der_core::one_first_fault;
-use program_frame::{ACCEPTED, REFUSED, Report, Shelf, Stop};
+use program_frame::{ACCEPTED, REFUSED, Report, Shelf, Stop, append_files};
 use std::alloc::{AllocError, Global};
 use x509_core::CertError;
 
@@ -59,7 +59,7 @@ fn answer<F: Shelf>(alloc: Global, shelf: &mut F, job: &Job<'_>) -> Result<Repor
         (F.state shelf.old).faults (F.state shelf.new).faults }
 {
     let mut contents = Vec::new(alloc);
-    read_all(alloc, shelf, job.files(), &mut contents)?;
+    append_files(alloc, shelf, job.files(), &mut contents)?;
     report_on(alloc, job, &contents)
 }
 
