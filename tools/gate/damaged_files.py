@@ -229,12 +229,11 @@ def is_well(tool, file, status, said):
 
 def in_place_of_openssl(*words, given=b""):
     """Finds a signature true or false, or fails, by a digest of its octets."""
-    option = "-sigfile" if "-sigfile" in words else "-signature"
-    chosen = sha256(Path(words[words.index(option) + 1]).read_bytes()).digest()[0] % 8
+    chosen = sha256(Path(words[words.index("-sigfile") + 1]).read_bytes()).digest()[0] % 8
     if chosen == 7:
         raise OpensslError("no key", errors="Could not read public key")
     if chosen % 2:
-        raise OpensslError("not accepted", out="Verification failure\n")
+        raise OpensslError("not accepted", out="Signature Verification Failure\n")
     return b""
 
 

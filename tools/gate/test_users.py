@@ -4,6 +4,7 @@
 """
 
 import re
+import subprocess
 import sys
 import unittest
 from hashlib import sha256
@@ -12,7 +13,7 @@ from pathlib import Path
 from shutil import which
 from struct import pack
 from tempfile import TemporaryDirectory
-from unittest.mock import patch
+from unittest.mock import Mock, patch
 
 sys.path.insert(0, str(Path(__file__).resolve().parents[1]))
 
@@ -25,7 +26,7 @@ from common import folders
 from common.command import Refusal
 from common.openssl import OpensslError, openssl
 from gate.programs_stand_in import StandIn
-from interop import chains, signed_programs, world_signatures
+from interop import chains, signed_programs, table_makers, world_signatures
 from interop.signature_making import portable_executable
 from judges import asked_signatures, question_judge
 from judges.basic_judge import answer
@@ -345,30 +346,49 @@ class QuestionLinesTest(unittest.TestCase):
     def test_other_lines(self):
         first = self.lines()[0]
         for line, why in (
-            ("refused WrongLength", "picky_ask says: refused WrongLength"), ("", "line 1 isn't that of a question"),
-            (first.rpartition(" ")[0], "line 1 isn't that of a question"), (first + " 00", "line 1 isn't that of a question"),
-            (first + "x", "line 1 isn't that of a question"), ("dsa" + first[3:], "line 1 isn't that of a question"),
+            ("refused WrongLength", "picky_ask says: refused WrongLength"), ("", "question 1 isn't in the form of one"),
+            (first.rpartition(" ")[0], "question 1 isn't in the form of one"), (first + " 00", "question 1 isn't in the form of one"),
+            (first + "x", "question 1 isn't in the form of one"), ("dsa" + first[3:], "question 1 isn't in the form of one"),
+            (first[:-1], "question 1 isn't in the form of one"), (first.upper(), "question 1 isn't in the form of one"),
+            (first[:-2], "question 1 has another SHA-256 than that of its signature"),
         ):
             self.assertEqual(self.said([line]), (1, "", f"verdict_table.py: {why}\n"))
 
     def test_one_row_and_two_verdicts(self):
+        # Only where two octets have one SHA-256, for which all have one here.
         row, octets = self.lines()[0].split(" ")[:4], self.lines()[1].split(" ")[4:]
         other = [*octets[:2], octets[2][:-2] + "00"]
-        lines = [" ".join([*row, *octets]), " ".join([*row, *other])]
-        self.assertEqual(self.said(lines), (1, "", "verdict_table.py: question 1 has the row of an earlier one and another verdict\n"))
+        digests = Mock(hexdigest=lambda: "0" * 64)
+        lines = [" ".join([row[0], *["0" * 64] * 3, *parts]) for parts in (octets, other)]
+        with patch.object(verdict_table, "sha256", lambda octets: digests):
+            self.assertEqual(self.said(lines), (1, "", "verdict_table.py: question 2 has the row of an earlier one and another verdict\n"))
 
     def test_too_many(self):
         with patch.object(verdict_table, "MOST_ASKED", 2), patch.object(verdict_table, "is_accepted", lambda *asked: True):
             self.assertEqual(self.said(self.lines()), (1, "", "verdict_table.py: more than 2 signatures are asked for\n"))
             self.assertEqual(self.said(self.lines()[:2])[0], 0)
 
-    def test_damaged(self):
-        lines = [line.split(" ") for line in self.lines()]
-        for place in 4, 5, 6:
-            for octets in "", "00", lines[0][place][2:]:
-                words = [*lines[0][:place], octets, *lines[0][place + 1:]]
-                status, out, _ = self.said([" ".join(words)])
-                self.assertEqual((status, "accept" in out), (0, False))
+    def altered(self):
+        """Texts with a line that is cut, or whose octets aren't those of its digests, and of which part that is said."""
+        lines = self.lines()
+        for place, part in enumerate(("key", "message", "signature"), 4):
+            words, other = lines[1].split(" "), lines[2].split(" ")
+            for at, octets in (place, ""), (place, "00"), (place, words[place][2:]), (place, words[place][:-2] + "ff"), (place, lines[0].split(" ")[place]), (place - 3, other[place - 3]):
+                if octets != words[at]:
+                    yield "\n".join([lines[0], " ".join([*words[:at], octets, *words[at + 1:]]), lines[2], ""]), part
+        whole = "".join(f"{line}\n" for line in lines)
+        yield from ((whole[:-length], None) for length in (1, 2, 3, 100, len(lines[-1]), len(lines[-1]) - 64))
+
+    def test_altered(self):
+        """No maker has a table for them, and each says why."""
+        with TemporaryDirectory() as folder:
+            makers = table_makers.makers(folder)
+            for text, part in self.altered():
+                for name, words in makers.items():
+                    done = subprocess.run(words, input=text, capture_output=True, text=True)
+                    self.assertEqual((done.returncode in (1, 2), done.stdout, done.stderr.count("\n")), (True, "", 1), name)
+                    why = f"has another SHA-256 than that of its {part}" if part else ""
+                    self.assertIn(why, done.stderr, name)
 
     def test_a_pool(self):
         """The questions of a chain, whatever the order of the certificates, and that of the root over itself."""

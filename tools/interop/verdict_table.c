@@ -4,9 +4,9 @@
  *     picky_ask SIG | ./verdict_table > TABLE
  *
  * A third maker of tables, which shares nothing with the other two but docs/FORMATS.md. A
- * question that libcrypto can't answer has no row. The status is 1, and there is no whole table,
- * where a line is none of a question, or two questions with one row have different verdicts.
- * It takes libcrypto 3.0 or later.
+ * question that libcrypto can't answer has no row. The status is 1, and there is no table,
+ * where a line is none of a question, a SHA-256 in it isn't that of the octets in it, or two
+ * questions with one row have different verdicts. It takes libcrypto 3.0 or later.
  */
 #include <openssl/bn.h>
 #include <openssl/core_names.h>
@@ -198,6 +198,20 @@ static const struct algorithm *algorithm_named(const char *name)
     return NULL;
 }
 
+/* Stops where a digest in digits isn't that of the octets, `why`. */
+static void compare(const char *digits, struct octets octets, const char *why)
+{
+    unsigned char digest[EVP_MAX_MD_SIZE];
+    char found[2 * EVP_MAX_MD_SIZE + 1];
+    unsigned length;
+    if (!EVP_Digest(octets.at, octets.length, digest, &length, EVP_sha256(), NULL))
+        stop("SHA-256 isn't there");
+    for (unsigned i = 0; i < length; i++)
+        sprintf(found + 2 * i, "%02x", digest[i]);
+    if (strcmp(found, digits))
+        stop(why);
+}
+
 /* The rows so far. */
 static struct row {
     char *text;
@@ -205,8 +219,8 @@ static struct row {
 } *rows;
 static size_t count;
 
-/* Prints the row, unless it was printed. */
-static void put(const char *text, enum verdict found)
+/* Keeps the row, unless it was kept. */
+static void keep(const char *text, enum verdict found)
 {
     for (size_t i = 0; i < count; i++)
         if (!strcmp(rows[i].text, text)) {
@@ -219,8 +233,13 @@ static void put(const char *text, enum verdict found)
     if (!rows || !copy)
         stop("out of memory");
     rows[count++] = (struct row){copy, found};
-    printf("%s %s\n", WORDS[found], text);
 }
+
+static const char *const OTHER[] = {
+    "a line has another SHA-256 than that of its key",
+    "a line has another SHA-256 than that of its message",
+    "a line has another SHA-256 than that of its signature",
+};
 
 /* The row and the three parts of a line; it is cut into its words. */
 static void answer(char *line)
@@ -232,22 +251,31 @@ static void answer(char *line)
             stop("a line isn't that of a question");
     if (rest || snprintf(row, sizeof row, "%s %s %s %s", words[0], words[1], words[2], words[3]) >= (int)sizeof row)
         stop("a line isn't that of a question");
-    for (int i = 0; i < PARTS; i++)
+    for (int i = 0; i < PARTS; i++) {
         parts[i] = octets_of(words[4 + i]);
+        compare(words[1 + i], parts[i], OTHER[i]);
+    }
     enum verdict found = verdict_on(algorithm_named(words[0]), parts);
     if (found != UNKNOWN)
-        put(row, found);
+        keep(row, found);
 }
 
 int main(void)
 {
     char *line = NULL;
     size_t room = 0;
-    puts("picky-verdicts 2");
-    while (getline(&line, &room, stdin) > 0) {
-        line[strcspn(line, "\n")] = 0;
+    ssize_t length;
+    while ((length = getline(&line, &room, stdin)) > 0) {
+        if (strcspn(line, "\n") != (size_t)length - 1)
+            stop("a line has no newline at its end, or an octet 0 in it");
+        line[length - 1] = 0;
         answer(line);
     }
     free(line);
+    if (ferror(stdin))
+        stop("the questions can't be read");
+    puts("picky-verdicts 2");
+    for (size_t i = 0; i < count; i++)
+        printf("%s %s\n", WORDS[rows[i].found], rows[i].text);
     return fflush(stdout) ? 1 : 0;
 }

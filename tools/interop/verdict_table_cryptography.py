@@ -3,27 +3,28 @@
 
     picky_ask SIG | python3 tools/interop/verdict_table_cryptography.py > TABLE
 
-A second maker of tables, of a few lines; the form of signatures is that of verdict_table.py.
-A question that `cryptography` can't answer has no row.
+A second maker of tables, of a few lines: the loop over the questions is that of verdict_table.py, and
+so is the form of signatures.  A question that `cryptography` can't answer has no row.
 """
 
 import sys
 from pathlib import Path
 
-from cryptography.exceptions import InvalidSignature
+from cryptography.exceptions import InvalidSignature, UnsupportedAlgorithm
 from cryptography.hazmat.primitives import hashes, serialization
 from cryptography.hazmat.primitives.asymmetric import ec, ed25519, padding
 
 sys.path.insert(0, str(Path(__file__).resolve().parents[1]))
 
 from common import command
-from verdict_table import NotJudged, has_form, table_of
+from common.signature_forms import NotJudged, has_form
+from verdict_table import table_of
 
 CURVES = {"p256": ec.SECP256R1(), "p384": ec.SECP384R1(), "p521": ec.SECP521R1()}
 
 
 def verify(kind, digest, key, message, signature):
-    """InvalidSignature where the signature is false, ValueError of a key that isn't read."""
+    """InvalidSignature where the signature is false, ValueError or UnsupportedAlgorithm where that isn't known."""
     digest = getattr(hashes, digest.upper())() if digest else None
     if kind == "rsa":
         serialization.load_der_public_key(key).verify(signature, message, padding.PKCS1v15(), digest)
@@ -41,7 +42,7 @@ def verdict(name, key, message, signature):
         verify(kind, digest, key, message, signature)
     except InvalidSignature:
         return "reject"
-    except ValueError as refusal:
+    except (ValueError, UnsupportedAlgorithm) as refusal:
         raise NotJudged(str(refusal)) from refusal
     return "accept"
 
@@ -49,7 +50,7 @@ def verdict(name, key, message, signature):
 def main(arguments):
     if arguments:
         return command.usage(__doc__)
-    print(*table_of(sys.stdin, verdict)[0], sep="\n")
+    print(*table_of(sys.stdin.read(), verdict)[0], sep="\n")
     return 0
 
 

@@ -25,10 +25,11 @@ from struct import unpack_from
 from typing import NamedTuple
 
 import verdict_table
+from common.signature_forms import NotJudged
 from judges.der_reader import Constructed, Malformed, read_exact, read_first, write
 from judges.value_reader import Shape, certificate, dotted
 from judges.verdict_rows import FIRST_LINE
-from verdict_table import NAMES, NotJudged
+from verdict_table import NAMES
 
 RSA = "1.2.840.113549.1.1.1"
 EC = "1.2.840.10045.2.1"

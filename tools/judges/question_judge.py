@@ -6,7 +6,8 @@ each certificate by the key of the next one, which are those of the issuer walk 
 another subject; then the same of the first certificate of the token and the others with
 another subject, where some certificate of it names time stamping.  Of a chain it is each
 certificate by the key of the next one.  A signature whose key isn't one of its algorithm
-isn't asked about.
+isn't asked about.  Of a pool it is each certificate by the key of each whose subject is its
+issuer, itself among them, as `pool_questions.py` asks.
 """
 
 from hashlib import sha256
@@ -90,3 +91,10 @@ def of_chain(files):
         return text(0, of_links([chain_reader.Read.of(octets).parts for octets in files]))
     except chain_reader.Refused as refusal:
         return text(1, [f"refused {refusal}"])
+
+
+def of_pool(files):
+    """Status and output of `pool_questions.py CERT ..`."""
+    members = [chain_reader.Read.of(octets).parts for octets in dict.fromkeys(files)]
+    pairs = ((child, parent) for child in members for parent in members if child.issuer == parent.subject)
+    return text(0, dict.fromkeys(line for pair in pairs for line in of_links(pair)))

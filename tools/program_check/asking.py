@@ -54,7 +54,7 @@ def made(programs, files, entry, children=(), parents=(), progress=lambda words:
     """The table; NoTable where there is none."""
     asked, unread = questions(programs, files, entry, children, parents)
     progress(f"openssl verifies {text.counted(len(asked), 'signature')}")
-    lines, lacking = verdict_table.table_of(dict.fromkeys(asked))
+    lines, lacking = verdict_table.table_of("".join(f"{line}\n" for line in asked))
     counts = {"asked": len(lines) - 1, "good": sum(line.startswith("accept ") for line in lines)}
     rows = {line.partition(" ")[2] for line in lines}
     return Table("".join(f"{line}\n" for line in lines), counts, [*unread, *lacking], any(is_of_signer(line, rows) for line in asked))
