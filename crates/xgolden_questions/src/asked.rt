@@ -3,7 +3,7 @@
 use crate::recorder::Recorder;
 use anyhow::{Context, Result, bail};
 use asn1_types::GeneralizedTime;
-use authenticode_core::{Policy, check_wincert};
+use authenticode_core::{CertificateTrustList, Policy, check_wincert};
 use der_core::Octets;
 use names_core::UtcDate;
 use program_frame::{MemShelf, MemSink};
@@ -16,23 +16,55 @@ use xgolden::octets_of;
 /// The room for the lines of the questions about a file.
 const MOST_HELD: usize = 1_048_576;
 
-/// The choices of five flags.
-const CHOICES: u8 = 32;
+/// The choices of six flags.
+const CHOICES: u8 = 64;
+
+/// What a file is checked for: its digest, dates, and a trust list with the time for it.
+#[derive(Clone, Copy)]
+struct Ways<'a> {
+    hash: &'a str,
+    dates: &'a str,
+    list: &'a CertificateTrustList,
+    now: i64,
+}
 
 /// The line for a vector.
 pub fn asked_about(alloc: Global, row: &str) -> Result<String> {
     let words: Vec<&str> = row.split(' ').collect(alloc)?;
-    let [file, table, hash, dates] = words.as_slice() else {
-        bail!("a vector has a file, a table, a digest and dates");
+    let [file, table, hash, dates, list, now] = words.as_slice() else {
+        bail!("a vector has a file, a table, a digest, dates, a trust list and a time");
     };
     let file = octets_of(alloc, file)?;
+    let list = CertificateTrustList::from_der(alloc, &octets_of(alloc, list)?)?;
+    let ways = Ways {
+        hash: *hash,
+        dates: *dates,
+        list: &list,
+        now: now.parse()?,
+    };
     let listed = listed_of(alloc, &file)?;
-    let recorder = Recorder::over(alloc, table_of(alloc, table)?);
-    for date in dates.split(',') {
-        check_under_all(alloc, &file, hash, date, &recorder)?;
+    let (asked, others) = counts_under(alloc, &file, &listed, ways, false, table)?;
+    let (more, more_others) = counts_under(alloc, &file, &listed, ways, true, table)?;
+    Ok(format!(in alloc;
+        "questions={} asked={asked} others={others} accepting: asked={more} others={more_others}",
+        listed.len()
+    )?)
+}
+
+/// How many questions a scheme is asked, and how many of them aren't listed.
+fn counts_under(
+    alloc: Global,
+    file: &[u8],
+    listed: &[String],
+    ways: Ways<'_>,
+    accepts: bool,
+    table: &str,
+) -> Result<(usize, usize)> {
+    let recorder = Recorder::over(alloc, accepts, table_of(alloc, table)?);
+    for date in ways.dates.split(',') {
+        check_under_all(alloc, file, ways, date, &recorder)?;
     }
-    let (asked, others) = recorder.counts(&listed)?;
-    Ok(format!(in alloc; "questions={} asked={asked} others={others}", listed.len())?)
+    recorder.counts(listed)
 }
 
 fn table_of(alloc: Global, word: &str) -> Result<VerdictTable> {
@@ -80,41 +112,55 @@ fn question_in(alloc: Global, line: &str) -> Result<String> {
 fn check_under_all(
     alloc: Global,
     file: &[u8],
-    hash: &str,
+    ways: Ways<'_>,
     date: &str,
     recorder: &Recorder,
 ) -> Result<()> {
-    let octets = octets_of(alloc, hash)?;
     for choice in 0..CHOICES {
-        let file_hash = if hash == "-" {
-            None
-        } else {
-            Some(Octets::from_slice(alloc, &octets)?)
-        };
-        let policy = policy_of(alloc, choice, file_hash, date)?;
+        let policy = policy_of(alloc, choice, ways, date)?;
         let _ = check_wincert(alloc, file, &policy, recorder);
     }
     Ok(())
 }
 
 /// The policy of a choice: a flag is on if its bit is.
-fn policy_of<'a>(
-    alloc: Global,
-    choice: u8,
-    file_hash: Option<Octets>,
-    date: &str,
-) -> Result<Policy<'a>> {
+fn policy_of<'a>(alloc: Global, choice: u8, ways: Ways<'a>, date: &str) -> Result<Policy<'a>> {
     let mut policy = Policy::new(alloc);
     policy.basic = choice & 1 != 0;
-    policy.file_hash = file_hash;
+    policy.file_hash = hash_of(alloc, ways.hash)?;
     policy.signing = choice & 2 != 0;
     policy.not_before = choice & 4 != 0;
     policy.not_after = choice & 8 != 0;
     policy.chain = choice & 16 != 0;
-    policy.date = DateCheck::Exact(date_of(date)?);
-    policy.against_list = false;
+    policy.date = dates_of(date)?;
+    policy.against_list = choice & 32 != 0;
+    policy.list = if policy.against_list {
+        Some(ways.list)
+    } else {
+        None
+    };
+    policy.now = ways.now;
     policy.exclude = false;
     Ok(policy)
+}
+
+fn hash_of(alloc: Global, word: &str) -> Result<Option<Octets>> {
+    if word == "-" {
+        return Ok(None);
+    }
+    let octets = octets_of(alloc, word)?;
+    Ok(Some(Octets::from_slice(alloc, &octets)?))
+}
+
+/// A date, or both ends of an interval.
+fn dates_of(word: &str) -> Result<DateCheck> {
+    let Some((lower, upper)) = word.split_once('-') else {
+        return Ok(DateCheck::Exact(date_of(word)?));
+    };
+    Ok(DateCheck::Interval {
+        lower: date_of(lower)?,
+        upper: date_of(upper)?,
+    })
 }
 
 fn date_of(word: &str) -> Result<UtcDate> {

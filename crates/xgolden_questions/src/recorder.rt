@@ -1,24 +1,28 @@
 //! A scheme that records what it is asked.
 
+ghost use Rattle.std.specs.Prelude.{if◌then◌else◌};
 ghost use Rattle.sig_core.specs.VerdictTable.{verdict_of};
+ghost use Rattle.sig_core.specs.declared.scheme.Verdict.TheVariants.{Accept};
 
 use anyhow::{Context, Result};
 use sig_core::{Scheme, SchemeError, SchemeKind, SigAlg, Verdict, VerdictTable};
 use std::alloc::{AllocError, Global};
 use std::cell::RefCell;
 
-/// A verdict table, and each question that it was asked, once: the algorithm's name, then key
-/// bytes, message and signature in hexadecimal.
+/// A verdict table or a scheme that accepts every signature, and each question that it was asked,
+/// once: the algorithm's name, then key bytes, message and signature in hexadecimal.
 #[derive(Drop)]
 pub struct Recorder {
+    accepts: bool,
     table: VerdictTable,
     asked: RefCell<Vec<String>>,
 }
 
 impl Recorder {
-    /// A recorder that wasn't asked anything.
-    pub fn over(alloc: Global, table: VerdictTable) -> Recorder {
+    /// A recorder that wasn't asked anything; it accepts all, or has the verdicts of the table.
+    pub fn over(alloc: Global, accepts: bool, table: VerdictTable) -> Recorder {
         Recorder {
+            accepts,
             table,
             asked: RefCell::new(Vec::new(alloc)),
         }
@@ -50,7 +54,8 @@ impl Scheme for Recorder {
     ghost use Rattle.std.specs.Prelude.{false, None};
     ghost use Rattle.std.proofs.lemmas.Option.{none-some};
 
-    ghost judge = { λ recorder alg key msg sig. verdict_of recorder.table alg key msg sig };
+    ghost judge = { λ recorder alg key msg sig.
+        if recorder.accepts then Accept else verdict_of recorder.table alg key msg sig };
 
     ghost signs = { λ _ _ _ _. false };
 
@@ -69,6 +74,9 @@ impl Scheme for Recorder {
         sig: &[u8],
     ) -> std::result::Result<Verdict, AllocError> {
         self.note(question_text(alloc, alg, key, msg, sig)?)?;
+        if self.accepts {
+            return Ok(Verdict::Accept);
+        }
         self.table.verify(alloc, alg, key, msg, sig)
     }
 
