@@ -1,11 +1,11 @@
 """Rows of `xgolden_run`: whole runs of `picky_ask`, each with the reason why it is there.
 
 The line of a question comes from `question_judge`; status and line of other runs are those of docs/MANUAL.md.  No
-run here has two questions, since each row has one line.
+run here has two questions, since each row has one line.  `run_rows` has the shelves that fail and the rooms.
 """
 
 from cases.anchor_rows import INT, LEAF
-from cases.anchor_run_rows import SHELF, SINK, UNREAD, USAGE
+from cases.anchor_run_rows import SHELF, UNREAD, USAGE
 from cases.first_path import signature_file
 from cases.issuing_chains import UNKNOWN, certificate
 from judges import question_judge
@@ -76,10 +76,3 @@ def all_cases():
     for each in (files, words, missing):
         for held, asked, expected, why in each():
             yield AMPLE, None, held, asked, expected, why
-    for held, asked, expected in (({"s": SIG}, ["s"], of_file(SIG)), (named([LEAF, INT]), ["--chain", "c0", "c1"], of_chain(LEAF, INT))):
-        # Each file is picked, read, and read at its end.
-        for call in range(3 * len(held) + 2):
-            yield AMPLE, call, held, asked, SHELF if call < 3 * len(held) else expected, f"call {call} fails"
-        line = expected[1]
-        for room in 0, 1, 10, 11, 76, len(line) // 2, len(line), len(line) + 1, len(line) + 2:
-            yield room, None, held, asked, expected if room > len(line) else (SINK[0], line[:room]), f"room for {room} octets"

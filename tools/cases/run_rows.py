@@ -70,6 +70,14 @@ def of_anchor(anchors, checked, pool, line, status=0):
     return Command("picky_anchor", words, {"t": table, **members}, line, zeros, status)
 
 
+def of_question():
+    """A command of `picky_ask` over a signature file, and one over two certificates."""
+    sig, members = FirstPath.octets, {"leaf": LEAF, "int": INT}
+    yield Command("picky_ask", ("s",), {"s": sig}, ask_run_rows.of_file(sig)[1], {"s": EMPTY})
+    line = ask_run_rows.of_chain(*members.values())[1]
+    yield Command("picky_ask", ("--chain", *members), members, line, dict.fromkeys(members, NO_ELEMENT))
+
+
 class FirstPath:
     octets, table = signature_file(), verdict_line()
 
@@ -89,6 +97,7 @@ def commands():
     yield of_image("--list", "l", "0", l=list_with(b"A"))
     yield of_anchor([ROOT], LEAF, [CROSS, INT], "anchored pool=1 anchor=0")
     yield of_anchor([ROOT], LEAF, [], "refused NoAnchoredPath", 1)
+    yield from of_question()
 
 
 # The rows: the program, the room, the call that fails, the files, the words, status and line.
@@ -113,17 +122,17 @@ def calls_of(files):
 
 def of_command(one):
     """The command as it is, with each call of the shelf failing, each file missing, at the greatest length and longer, and with each room."""
-    whole = one.status, one.line
+    whole, ample = (one.status, one.line), max(ROOM, len(one.line) + 1)
     calls = calls_of(one.files)
     for call in range(calls + 2):
-        yield ROOM, call, one.files, one.words, SHELF if call < calls else whole
+        yield ample, call, one.files, one.words, SHELF if call < calls else whole
     for room in range(len(one.line) + 2):
         yield room, None, one.files, one.words, whole if room > len(one.line) else (SINK[0], one.line[:room])
     for name in one.files:
-        yield ROOM, None, {other: octets for other, octets in one.files.items() if other != name}, one.words, SHELF
+        yield ample, None, {other: octets for other, octets in one.files.items() if other != name}, one.words, SHELF
     for name, said in one.zeros.items():
-        yield ROOM, None, {**one.files, name: GREATEST}, one.words, BAD_TABLE if said is TABLE else (1, said)
-        yield ROOM, None, {**one.files, name: TOO_GREAT}, one.words, TOO_LONG
+        yield ample, None, {**one.files, name: GREATEST}, one.words, BAD_TABLE if said is TABLE else (1, said)
+        yield ample, None, {**one.files, name: TOO_GREAT}, one.words, TOO_LONG
 
 
 def rows():
