@@ -29,17 +29,16 @@ def questions(programs, files, entry, children=(), parents=()):
     Those of certificates are asked under the key of each certificate whose subject is
     their issuer (RFC 5280 4.1.1.3), and come behind those of the signature file.
     """
+    calls = [([files.of("signature.bin", entry)], "signature")] if entry is not None else []
+    for place, pair in enumerate(between(children, parents)):
+        written = files.certificates(f"asked{place}_", [one.der for one in pair])
+        calls.append((["--chain", *written], "certificate '{}' or '{}'".format(*(one.called() for one in pair))))
+    programs.expect([(ASK, words) for words, _ in calls])
     asked, unread = [], []
-    if entry is not None:
-        answer = programs.run(ASK, [files.of("signature.bin", entry)], ASK)
+    for words, what in calls:
+        answer = programs.run(ASK, words, ASK)
         if answer.accepted() is None:
-            unread.append(f"{ASK} reads no signature: {answer.line()}")
-        else:
-            asked += answer.output.splitlines()
-    for child, parent in between(children, parents):
-        answer = programs.run(ASK, ["--chain", *files.certificates("asked", (child.der, parent.der))], ASK)
-        if answer.accepted() is None:
-            unread.append(f"{ASK} reads no certificate '{child.called()}' or '{parent.called()}': {answer.line()}")
+            unread.append(f"{ASK} reads no {what}: {answer.line()}")
         else:
             asked += answer.output.splitlines()
     return asked, unread
@@ -52,6 +51,7 @@ def between(children, parents):
 
 def made(programs, files, entry, children=(), parents=(), progress=lambda words: None):
     """The table; NoTable where there is none."""
+    progress(programs.progress)
     asked, unread = questions(programs, files, entry, children, parents)
     progress(f"openssl verifies {text.counted(len(asked), 'signature')}")
     lines, lacking = verdict_table.table_of("".join(f"{line}\n" for line in asked))

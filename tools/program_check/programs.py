@@ -34,8 +34,8 @@ STATUSES = {
 SECONDS = 120
 # What `rt try` says last of a program that ended.
 TRIED = re.compile(rb"^run=ended status=(\d+) .*proved=no$", re.MULTILINE)
-# More octets than any line of a program has.
-ROOM = 65_536
+# More octets than any line has; questions have at most so many times those of the files that they are about.
+ROOM, LONGER = 65_536, 10
 VARIABLE = "PICKY_PROGRAMS"
 
 
@@ -141,12 +141,10 @@ class Tried(Programs):
             rows = Path(folder, "rows")
             rows.write_text("".join(f"{row_of(program, words)}\n" for program, words in calls), encoding="ascii")
             status, output = tried("xgolden_run", [rows])
-        lines = output.splitlines()
-        if status or len(lines) != len(calls):
+        answers = answers_in(output)
+        if status or len(answers) != len(calls):
             raise NotChecked(command.CANT, "`rt try` in crates/xgolden_run doesn't run the programs to their end")
-        for (program, words), line in zip(calls, lines):
-            status, _, line = line.partition(" ")
-            self.answers[call_of(program, words)] = int(status), f"{line}\n" if line else ""
+        self.answers |= zip((call_of(*call) for call in calls), answers)
 
     def run(self, program, words, shown):
         """The same answer, which may have been expected."""
@@ -160,10 +158,24 @@ def call_of(program, words):
 
 
 def row_of(program, words):
-    """A call as `xgolden_run` takes it: the program, room for a line, no call that fails, the files and the words."""
+    """A call as `xgolden_run` takes it: the program, room for its lines, no call that fails, the files and the words."""
     names = {word: f"f{place}" for place, word in enumerate(words) if isinstance(word, Path)}
-    files = ",".join(f"{name}={file.read_bytes().hex() or '-'}" for file, name in names.items())
-    return " ".join((program, str(ROOM), "-", files or "-", *(names.get(word, str(word)) for word in words)))
+    octets = {name: file.read_bytes() for file, name in names.items()}
+    room = max(ROOM, LONGER * sum(map(len, octets.values())))
+    files = ",".join(f"{name}={one.hex() or '-'}" for name, one in octets.items())
+    return " ".join((program, str(room), "-", files or "-", *(names.get(word, str(word)) for word in words)))
+
+
+def answers_in(output):
+    """The status and the output of each call, as `xgolden_run` prints them: a line, of `picky_ask` several, of which the first has the status."""
+    found = []
+    for line in output.splitlines():
+        status, _, rest = line.partition(" ")
+        if status in map(str, range(8)):
+            found.append((int(status), f"{rest}\n" if rest else ""))
+        elif found:
+            found[-1] = found[-1][0], f"{found[-1][1]}{line}\n"
+    return found
 
 
 def tried(crate, words):
