@@ -56,7 +56,8 @@ impl<S: Scheme + Drop> Register<S> {
         self.entries.get(place)
     }
 
-    /// The certificate at an index, counted from 0. None exactly from `len` on. It doesn't allocate.
+    /// The certificate at an index, counted from 0. None exactly from `len` on. It doesn't
+    /// allocate.
     pub fn certificate(&self, place: usize) -> Option<&Cert>
         ensures { MatchOption result (length self.now.certificates.items ≤ place)
             (λ cert. HasCert self.now.certificates.items place cert.now) }
