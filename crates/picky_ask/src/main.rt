@@ -1,8 +1,8 @@
 //! The program: its command line, files by path, standard output.
 #![tactic(auto)]
 
-use ask_program::run;
 use program_frame::{DirShelf, OutSink, status_without_words};
+use signature_questions::run;
 use std::process::ExitCode;
 use std::{env, io};
 

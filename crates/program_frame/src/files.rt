@@ -116,7 +116,7 @@ pub fn read_files<F: Shelf>(
     let first = read_file(alloc, shelf, names.first)?;
     let second = read_file(alloc, shelf, names.second)?;
     let mut others = Vec::new(alloc);
-    read_others(alloc, shelf, names.others, &mut others)?;
+    append_files(alloc, shelf, names.others, &mut others)?;
     Ok(Contents {
         first,
         second,
@@ -125,7 +125,7 @@ pub fn read_files<F: Shelf>(
 }
 
 /// Reads whole files and appends them to those already read.
-fn read_others<F: Shelf>(
+pub fn append_files<F: Shelf>(
     alloc: Global,
     shelf: &mut F,
     names: &[String],
@@ -145,5 +145,5 @@ fn read_others<F: Shelf>(
         return Ok(());
     };
     contents.push(read_file(alloc, shelf, name.as_str())?)?;
-    read_others(alloc, shelf, others, contents)
+    append_files(alloc, shelf, others, contents)
 }

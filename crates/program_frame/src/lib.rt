@@ -20,7 +20,7 @@ mod task;
 pub use dates::date_of;
 pub use disk::{DirShelf, OutSink, Paths};
 pub use error::FileError;
-pub use files::{Contents, Names, read_file, read_files, write_report};
+pub use files::{Contents, Names, append_files, read_file, read_files, write_report};
 pub use memory::{MemShelf, MemSink};
 pub use options::{CheckOption, CheckOptions, ListOption, options_of};
 pub use report::{Report, deliver};

@@ -1,7 +1,24 @@
-//! Which signatures a check of a signature file may ask a scheme about, and that nothing else about
-//! a scheme matters.
+//! Which signatures a check of a signature file, or of a chain of certificates, may ask a scheme
+//! about, one after another; that nothing else about a scheme matters; and the program `picky_ask`,
+//! which prints them.
 #![tactic(auto)]
 
+mod borrowed_key;
+mod chain_questions;
+mod inquiry;
 mod laws;
+mod lines;
+mod links;
+mod message;
+mod program;
+mod question;
+mod questions;
+mod reading;
+mod words;
 
+pub use chain_questions::ChainQuestions;
 pub use laws::{questions_are_listed, questions_decide, questions_decide_chains, tables_decide};
+pub use message::Message;
+pub use program::run;
+pub use question::Question;
+pub use questions::{Questions, questions_of};

@@ -2,13 +2,13 @@
 
 use crate::recorder::Recorder;
 use anyhow::{Context, Result, bail};
-use ask_program::run;
 use asn1_types::GeneralizedTime;
 use authenticode_core::{Policy, check_wincert};
 use der_core::Octets;
 use names_core::UtcDate;
 use program_frame::{MemShelf, MemSink};
 use sig_core::VerdictTable;
+use signature_questions::run;
 use std::alloc::Global;
 use x509_core::DateCheck;
 use xgolden::octets_of;

@@ -1,6 +1,5 @@
 //! The callers in the READMEs of the libraries, a module each.
 
-mod of_ask_program;
 mod of_asn1_types;
 mod of_authenticode_core;
 mod of_authenticode_parts;
@@ -20,7 +19,6 @@ mod of_pe_image;
 mod of_picky_check;
 mod of_private_key_types;
 mod of_program_frame;
-mod of_question_walk;
 mod of_register_text;
 mod of_request_types;
 mod of_sig_core;

@@ -1,9 +1,0 @@
-pub mod ReadCertificates
-pub mod AskedWords
-pub mod OnePlace
-pub mod OneList
-pub mod Reported
-pub mod WrittenLines
-pub mod ReadCauses
-pub mod OneLine
-pub mod LineReports

@@ -1,0 +1,38 @@
+//! A run of the program: words, files, lines, and exit status.
+
+ghost use Rattle.std.specs.Prelude.{◌≡◌, length, map, string_bytes};
+ghost use Rattle.der_core.specs.Counts.{FailsOnce};
+ghost use Rattle.program_frame.specs.ReadFiles.{HandsOutAtMost};
+ghost use Rattle.program_frame.specs.Statuses as statuses;
+ghost use Rattle.signature_questions.specs.Commands.{IsRun};
+ghost use Rattle.signature_questions.specs.Words.{AsksFor, AsksForNothing, Job, files_of};
+
+use crate::inquiry::inquire;
+use program_frame::{Shelf, Sink, deliver};
+use std::alloc::Global;
+
+/// Writes the questions about a signature file, or about files with certificates as a chain, a line
+/// each, with files of the shelf; and returns the exit status, one of the constants of
+/// `program_frame`. Octets that are no signature file, or no certificate, are refused by a line
+/// with the cause.
+pub fn run<F: Shelf, O: Sink>(alloc: Global, words: &[String], shelf: &mut F, out: &mut O) -> u8
+    // Nothing is read if the words aren't these.
+    ensures unread { AsksForNothing (map string_bytes words.now) → shelf.new ≡ shelf.old }
+    // Whatever the status, no more is read than one octet more than the longest file for each file
+    // that the words name.
+    ensures at_most { (job : Job) → AsksFor (map string_bytes words.now) job
+        → HandsOutAtMost (length (files_of job)) (F.state shelf.old) (F.state shelf.new) }
+    // A failed call of the shelf or of the sink is the last one, and the status reports it.
+    ensures shelf_once { FailsOnce (result ≡ statuses.shelf_failed) (F.state shelf.old).faults
+        (F.state shelf.new).faults }
+    ensures sink_once { FailsOnce (result ≡ statuses.sink_failed) (O.state out.old).faults
+        (O.state out.new).faults }
+    // What each status means, and when it is returned.
+    ensures ends { IsRun (map string_bytes words.now) (F.state shelf.old) (F.state shelf.new)
+        (O.state out.old) (O.state out.new) result }
+{
+    match inquire(alloc, words, shelf) {
+        Ok(report) => deliver(out, &report),
+        Err(stop) => stop.status(),
+    }
+}
