@@ -9,6 +9,7 @@ pub mod Usable
 -- For the program.
 pub mod Words
 pub mod LineKeys
+pub mod LineCertificates
 pub mod LineEntries
 pub mod Counting
 pub mod Answer
@@ -17,4 +18,5 @@ pub mod Reported
 -- Rules, which the promises rest on.
 pub mod Above
 -- Inside, which no public contract cites.
+pub mod Filling
 pub mod Inquiry

@@ -1,7 +1,8 @@
 //! Counting the certificates of a register that are accepted at a date.
 
 ghost use Rattle.std.specs.Prelude.{◌≡◌, ◌<◌, ◌≤◌, ◌↔◌, ◌+◌, IsTrue, false, length};
-ghost use Rattle.ca_register.specs.Counting.{IsCount, IsUsableAt};
+ghost use Rattle.ca_register.specs.Authorities.{IsRegister};
+ghost use Rattle.ca_register.specs.Counting.{IsAcceptedAt, IsCount, IsUsableAt};
 ghost use Rattle.ca_register.specs.Usable.{IsBetween};
 
 use crate::register::Register;
@@ -12,8 +13,12 @@ use std::cmp::Ordering;
 /// How many certificates are accepted at the date, by the entries alone.
 pub(crate) fn accepted_count<S: Scheme + Drop>(register: &Register<S>, date: &UtcDate) -> usize
     requires few { length register.now.entries.items ≤ 200 }
-    ensures { IsCount (IsUsableAt register.now.entries.items date.now)
+    ensures usable { IsCount (IsUsableAt register.now.entries.items date.now)
         (length register.now.entries.items) result }
+    ensures accepted { IsRegister (S.judge register.now.scheme) register.now.entries.items
+        register.now.certificates.items
+        → IsCount (IsAcceptedAt (S.judge register.now.scheme) register.now.entries.items
+        register.now.certificates.items date.now) (length register.now.entries.items) result }
 {
     let mut accepted = 0usize;
     for place in 0..register.len() {
@@ -34,11 +39,15 @@ fn counted(number: usize, is_one: bool) -> usize
 /// Whether the certificate at this place is accepted at the date.
 fn is_usable<S: Scheme + Drop>(register: &Register<S>, place: usize, date: &UtcDate) -> bool
     requires within { place < length register.now.entries.items }
-    ensures { IsTrue result ↔ IsUsableAt register.now.entries.items date.now place }
+    ensures usable { IsTrue result ↔ IsUsableAt register.now.entries.items date.now place }
+    ensures accepted { IsRegister (S.judge register.now.scheme) register.now.entries.items
+        register.now.certificates.items
+        → IsTrue result ↔ IsAcceptedAt (S.judge register.now.scheme) register.now.entries.items
+        register.now.certificates.items date.now place }
 {
     match register.usable(place) {
         Some((from, to)) => is_between(&from, &to, date),
-        None => false,
+        None => unreachable!(),
     }
 }
 
