@@ -1,21 +1,27 @@
 -- There is one answer for the lines of a register, and a report of it is the only one.
-use Rattle.std.proofs.Common.{◌≡◌, ◌≢◌, ℕ, ◌≤◌, List, [], ◌∷◌, length, Result, Ok, Err, IfOk, IfErr, MatchResult, inl, inr, refl, sym, ap, subst, ◌∙◌, arith}
+use Rattle.std.proofs.Common.{◌≡◌, ◌≢◌, ◌⊎◌, ℕ, ◌+◌, ◌≤◌, List, [], ◌∷◌, length, Result, Ok, Err, IfOk, IfErr, MatchResult, inl, inr, refl, sym, ap, subst, ◌∙◌, arith}
 use Rattle.std.proofs.Math.Logic.{∥∥₁_map}
 use Rattle.std.specs.Prelude.{string_bytes}
+use Rattle.std.proofs.lemmas.List.Sums.{sum_by-cons}
+use Rattle.der_core.specs.Counts.{HasRisen}
 use Rattle.asn1_types.specs.declared.generalized_time.GeneralizedTime.{GeneralizedTime}
 use Rattle.program_frame.specs.declared.report.Report.{Report}
 use Rattle.program_frame.specs.declared.stop.Stop.{Stop}
 use Rattle.program_frame.specs.declared.stop.Stop.TheVariants as stop
 use Rattle.program_frame.specs.Inquiry.{GivesLine, GivesStop, StopsForText, line_of}
+use Rattle.program_frame.specs.Limits.{IsWholeFile}
 use Rattle.program_frame.specs.Question.{Line as ReportLine}
+use Rattle.program_frame.specs.ReadFiles.{AreRead, HandsOut, total_length}
+use Rattle.program_frame.specs.Shelf.{ShelfState}
+use Rattle.program_frame.specs.Sink.{Appends, IsCutShort, SinkState}
 use Rattle.register_text.specs.Lines.{HasBadLine, IsRegisterText, Line}
 use Rattle.sig_core.specs.DemoScheme.{demo_verdict}
 use Rattle.ca_register.specs.Answer.{AreCounted, IsAnswerLine, IsAnswerTo, report_line, status_of, text_in}
 use Rattle.ca_register.specs.Counting.{IsCount, IsUsableAt}
 use Rattle.ca_register.specs.Inquiry.{IsReportOf, IsReported, Reports}
 use Rattle.ca_register.specs.LineEntries.{IsFirstRefused, entries_of}
-use Rattle.ca_register.specs.Reported.{AreIssued, IsCountLine}
-use Rattle.ca_register.specs.Words.{Job}
+use Rattle.ca_register.specs.Reported.{AreIssued, IsCountFor, IsCountLine, IsReportedCount}
+use Rattle.ca_register.specs.Words.{AsksFor, Job}
 use Rattle.ca_register.specs.declared.error.IssueError.{IssueError}
 use Rattle.ca_register.specs.declared.error.IssueError.TheVariants as errors
 use Rattle.ca_register.specs.declared.report.Answer.{Answer}
@@ -121,6 +127,51 @@ module _ (job : Job) (text : List ℕ) (lines : List Line) (is : IsRegisterText 
       gives_line answer.answer line result answer.status answer.text
       (h.only answer.answer (subst (λ (ls : List Line). IsAnswerTo job.date ls answer.answer) (sym (once answer.lines answer.is_text)) answer.is_answer))
 
--- if the text isn't read
-unread_line : (s : Stop) (read : List Line) (line : ReportLine) → MatchResult (Err s) (λ (found : List Line). found ≡ read) (λ stop. stop ≡ stop.Memory) → GivesLine line (Err s)
-unread_line s read line h = h
+-- ---- the file
+
+-- a text that isn't read
+pub unread_only : (job : Job) (text : List ℕ) (s : Stop) → ((lines : List Line) → IsRegisterText text lines → s ≡ stop.Memory) → (line : ReportLine) → IsAnswerLine job (text ∷ []) line → GivesLine line (Err s)
+unread_only job text s only line answer = only answer.lines answer.is_text
+
+bad_or_memory : (HasBad : Type 0) (s : Stop) → StopsForText HasBad s → (s ≡ stop.BadTable) ⊎ (s ≡ stop.Memory)
+bad_or_memory HasBad stop.BadTable h = inl refl
+bad_or_memory HasBad stop.Memory h = inr refl
+bad_or_memory HasBad stop.Usage h = absurd h
+bad_or_memory HasBad stop.Shelf h = absurd h
+bad_or_memory HasBad stop.TooLong h = absurd h
+
+pub gives_stop : (HasBad : Type 0) (s : Stop) → StopsForText HasBad s → GivesStop stop.BadTable (Err s)
+gives_stop HasBad s h = by (bad_or_memory HasBad s h)
+  where
+    by : (s ≡ stop.BadTable) ⊎ (s ≡ stop.Memory) → GivesStop stop.BadTable (Err s)
+    by (inl bad) = inl (ap Err bad)
+    by (inr memory) = inr (ap Err memory)
+
+module _ (shelf shelf_now : ShelfState) (words : List (List ℕ)) (job : Job) (asked : AsksFor words job) (text : List ℕ) (file : IsWholeFile shelf.files job.file text) (given : HandsOut (length text) shelf shelf_now) where
+  pub counts_for : (result : Result Report Stop)
+      → IfOk result (λ report. report.status ≡ 0 → (lines : List Line) × IsRegisterText text lines × IsCountLine job.date lines (string_bytes report.line))
+      → IfOk result (λ report. report.status ≡ 0 → IsCountFor words shelf shelf_now (string_bytes report.line))
+  counts_for (Ok report) h = λ zero.
+      let of = h zero in
+      record { job = job; asked = asked; text = text; file = file; handed_out = given; lines = of.0; is_text = of.1; counted = of.2 }
+  counts_for (Err s) h = tt
+
+-- the file alone
+pub read_alone : (shelf shelf_now : ShelfState) (name text : List ℕ) → IsWholeFile shelf.files name text → HandsOut (length text) shelf shelf_now → AreRead shelf shelf_now (name ∷ []) (text ∷ [])
+read_alone shelf shelf_now name text whole given = record {
+  are_files = (whole, tt);
+  given = subst (λ (n : ℕ). HandsOut n shelf shelf_now) (sym (sum_by-cons (λ (o : List ℕ). length o) text [] ∙ add-zero)) given;
+}
+  where
+    add-zero : length text + total_length [] ≡ length text
+    add-zero = omega arith
+
+-- ---- what is delivered
+
+module _ (words : List (List ℕ)) (shelf shelf_now : ShelfState) (report : Report)
+    (counted : report.status ≡ 0 → IsCountFor words shelf shelf_now (string_bytes report.line)) (out out_now : SinkState) where
+  pub delivered_count : (status : ℕ) → status ≡ 0 → ((status ≡ report.status) × Appends out.held (string_bytes report.line) out_now.held)
+      ⊎ ((status ≡ 5) × HasRisen out.faults out_now.faults × IsCutShort (string_bytes report.line) out out_now)
+      → IsReportedCount words shelf shelf_now out.held out_now.held
+  delivered_count status zero (inl h) = record { line = string_bytes report.line; count = counted (sym h.0 ∙ zero); written = h.1 }
+  delivered_count status zero (inr h) = absurd (omega (arith, zero, h.0))

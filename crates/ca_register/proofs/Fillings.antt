@@ -1,9 +1,10 @@
 -- A register after one line more, and what refuses a line.
-use Rattle.std.proofs.Common.{◌≡◌, ◌≢◌, ◌<◌, ◌≤◌, ◌⊎◌, ℕ, zero, suc, ◌+◌, false, List, [], ◌∷◌, ◌++◌, length, take, drop, map, Option, Some, None, Result, Ok, Err, inl, inr, refl, sym, ap, subst, ◌∙◌, arith}
+use Rattle.std.proofs.Common.{◌≡◌, ◌≢◌, ◌<◌, ◌≤◌, ◌⊎◌, ℕ, zero, suc, ◌+◌, false, List, [], ◌∷◌, ◌++◌, length, take, drop, map, slice_index_or, Option, Some, None, option_map, Result, Ok, Err, inl, inr, refl, sym, ap, subst, ◌∙◌, arith}
 use Rattle.std.specs.List.{AllByRecursion, slice_get}
-use Rattle.std.proofs.lemmas.List.{length-append, length-map}
-use Rattle.std.proofs.lemmas.Option.{slice_get_within}
-use Rattle.der_core.specs.Refusals.{Wraps}
+use Rattle.std.proofs.lemmas.List.{length-append, length-map, take_all}
+use Rattle.std.proofs.lemmas.Option.{slice_get-map, slice_get_read, slice_get_within}
+use Rattle.asn1_types.specs.Integer.{IsUnsignedInteger}
+use Rattle.asn1_types.specs.Values.{integer_contents}
 use Rattle.der_core.specs.Steps.{AreTaken, IsFirstUntaken, RefusesBySteps, Step}
 use Rattle.key_core.specs.Keys.{info_of}
 use Rattle.key_core.specs.PrivatePkcs1.{IsPrivatePkcs1}
@@ -15,7 +16,9 @@ use Rattle.key_core.specs.declared.signature_error.SignatureError.TheVariants as
 use Rattle.name_types.specs.Name.{name}
 use Rattle.names_core.specs.Names.{sets_of}
 use Rattle.names_core.specs.declared.name.DirectoryName.{DirectoryName}
+use Rattle.register_text.specs.Held.{line_held}
 use Rattle.register_text.specs.Lines.{IsLine, Line}
+use Rattle.register_text.specs.declared.line.RegisterLine.{RegisterLine}
 use Rattle.x509_core.specs.Issued.{HasCert}
 use Rattle.x509_core.specs.KeptCertificate.{KeptCertificate}
 use Rattle.x509_core.specs.declared.error.CertError.{CertError}
@@ -29,7 +32,7 @@ use Rattle.x509_issuing.specs.declared.builder.SubjectInfos.TheVariants as subje
 use Rattle.ca_register.specs.Filling.{IsFilled, IsKeyAt}
 use Rattle.ca_register.specs.Granting.{IsChildBuilder, IsRootBuilder}
 use Rattle.ca_register.specs.Issuing.{Adds, IsBuiltBy, IsIssuedCert, child_steps, record_steps, root_step, root_steps, signed_steps}
-use Rattle.ca_register.specs.LineCertificates.{AreForLines, IsForLine, common_name}
+use Rattle.ca_register.specs.LineCertificates.{AreForLines, IsAtPlace, IsForLine, common_name}
 use Rattle.ca_register.specs.LineEntries.{AreIssuable, IsFirstRefused, IsIssuable, entries_of, entry_of, grant_of, steps_after}
 use Rattle.ca_register.specs.LineKeys.{AreLineKeys, key_secret}
 use Rattle.ca_register.specs.Refusals.{unbuilt, wrong_key}
@@ -40,7 +43,7 @@ use Rattle.ca_register.specs.declared.error.IssueError.TheVariants as errors
 use Rattle.ca_register.proofs.FirstRefusals.{Begins, IsSame, where_first}
 use Rattle.ca_register.proofs.KeyPairs.{demo_pair, demo_scheme}
 use Rattle.ca_register.proofs.LineBuilders.{child_set, root_set}
-use Rattle.ca_register.proofs.LineBuilds.{built_for, untaken_for_memory}
+use Rattle.ca_register.proofs.LineBuilds.{built_for, numbered, untaken_for_memory}
 use Rattle.ca_register.proofs.LineSubjects.{pairs}
 
 -- ---- a list cut at a place
@@ -92,15 +95,15 @@ all_issuable lines line issuable next ahead behind other are = by (where_first l
         absurd (omega (arith, whole, ahead_is, length-append lines (line ∷ []), length-append ahead (other ∷ behind), length-append lines (line ∷ longer.between)))
     by (inr (inr within)) = issuable ahead within.between other within.is
 
-all_for : (lines : List Line) (certificates : List KeptCertificate) (line : Line) (cert : KeptCertificate) → length certificates ≡ length lines → AreForLines lines certificates → IsForLine line cert
+all_for : (lines : List Line) (certificates : List KeptCertificate) (line : Line) (cert : KeptCertificate) → length certificates ≡ length lines → AreForLines lines certificates → IsAtPlace (length lines) line cert
     → AreForLines (lines ++ line ∷ []) (certificates ++ cert ∷ [])
 all_for lines certificates line cert all each for place other found at has = by (old_or_new lines line place other at) (old_or_new certificates cert place found has)
   where
-    by : IsOldOrNew lines line place other → IsOldOrNew certificates cert place found → IsForLine other found
+    by : IsOldOrNew lines line place other → IsOldOrNew certificates cert place found → IsAtPlace place other found
     by (inl old) (inl kept) = each place other found old kept
     by (inl old) (inr (here, same)) = absurd (omega (arith, slice_get_within lines place other old, here, all))
     by (inr (here, same)) (inl kept) = absurd (omega (arith, slice_get_within certificates place found kept, here, all))
-    by (inr (here, same)) (inr (there, also)) = subst (λ (c : KeptCertificate). IsForLine other c) (sym also) (subst (λ (l : Line). IsForLine l cert) (sym same) for)
+    by (inr (here, same)) (inr (there, also)) = subst (λ (c : KeptCertificate). IsAtPlace place other c) (sym also) (subst (λ (l : Line). IsAtPlace place l cert) (sym same) (subst (λ (n : ℕ). IsAtPlace n line cert) (sym here) for))
 
 entries_more : (lines : List Line) (line : Line) → entries_of (lines ++ line ∷ []) ≡ entries_of lines ++ entry_of line ∷ []
 entries_more lines line = map_more entry_of lines line
@@ -120,18 +123,19 @@ module _ (lines : List Line) (place : ℕ) (line : Line) (at : slice_get lines p
 
   pub next_filled : (issuer : Option ℕ) (grant : Grant) (IsCert : KeptCertificate → Type 0) (more : List Entry) (longer : List KeptCertificate) (at_place next : ℕ) → next ≡ suc place → length certificates ≡ length entries
       → line.issuer ≡ issuer → grant ≡ grant_of line → Adds (record { issuer = issuer; grant = grant }) IsCert entries more certificates longer at_place
-      → ((cert : KeptCertificate) → IsCert cert → IsForLine line cert) → AreTaken (steps_after entries issuer grant) → IsFilled (take next lines) more longer
+      → ((cert : KeptCertificate) → IsCert cert → IsAtPlace place line cert) → AreTaken (steps_after entries issuer grant) → IsFilled (take next lines) more longer
   next_filled issuer grant IsCert more longer at_place next is_next all by same added for taken =
       let begins = ap (λ (n : ℕ). take n lines) is_next ∙ one_later lines place line at in
       let steps = subst (λ (o : Option ℕ). AreTaken (steps_after entries o grant)) (sym by) taken in
       let own = subst (λ (g : Grant). AreTaken (steps_after entries line.issuer g)) same steps in
       let issuable : IsIssuable Ahead line = subst (λ (es : List Entry). AreTaken (steps_after es line.issuer (grant_of line))) filled.recorded own in
+      let ahead_is : length Ahead ≡ place = before_at lines place (omega (arith, slice_get_within lines place line at)) in
       let many : length certificates ≡ length Ahead = all ∙ ap (λ (es : List Entry). length es) filled.recorded ∙ length-map Ahead entry_of in
       subst (λ (ls : List Line). IsFilled ls more longer) (sym begins) (record {
         recorded = added.recorded ∙ ap (λ (es : List Entry). es ++ record { issuer = issuer; grant = grant } ∷ []) filled.recorded
             ∙ ap (λ (e : Entry). entries_of Ahead ++ e ∷ []) (entry_is line issuer grant by same) ∙ sym (entries_more Ahead line);
         issuable = all_issuable Ahead line filled.issuable issuable;
-        each = subst (λ (cs : List KeptCertificate). AreForLines (Ahead ++ line ∷ []) cs) (sym added.kept) (all_for Ahead certificates line added.cert many filled.each (for added.cert added.is));
+        each = subst (λ (cs : List KeptCertificate). AreForLines (Ahead ++ line ∷ []) cs) (sym added.kept) (all_for Ahead certificates line added.cert many filled.each (subst (λ (n : ℕ). IsAtPlace n line added.cert) (sym ahead_is) (for added.cert added.is)));
       })
 
   pub first_refused : (issuer : Option ℕ) (grant : Grant) (e : IssueError) → line.issuer ≡ issuer → grant ≡ grant_of line → IsFirstUntaken (steps_after entries issuer grant) e → IsFirstRefused lines e
@@ -158,14 +162,14 @@ module _ (lines : List Line) (place : ℕ) (line : Line) (at : slice_get lines p
       let within = slice_get_within certificates issuer parent has in
       let many = before_at lines place (omega (arith, slice_get_within lines place line at)) in
       let found = found_at Ahead issuer (omega (arith, within, all, as_many, many)) in
-      record { signer = found.0; at_issuer = still_in lines place issuer found.0 found.1; for = filled.each issuer found.0 parent found.1 has }
+      record { signer = found.0; at_issuer = still_in lines place issuer found.0 found.1; for = (filled.each issuer found.0 parent found.1 has).for }
 
 -- ---- what refuses a root
 
 unbuilt_memory : (source : CertError) (e : IssueError) → e ≡ unbuilt source → source ≡ cert_errors.Memory → e ≡ errors.Memory
 unbuilt_memory source e is memory = is ∙ ap unbuilt memory
 
-module _ (line : Line) (short : length line.name ≤ 64) (word : ℕ) (small : word < 256) (grant : Grant) (given : DirectoryName) (named : name (sets_of given) ≡ common_name line.name) where
+module _ (line : Line) (short : length line.name ≤ 64) (place word : ℕ) (word_is : word ≡ place + 1) (small : word < 256) (grant : Grant) (given : DirectoryName) (named : name (sets_of given) ≡ common_name line.name) where
   module _ (key : PrivateKey) (private : IsPrivatePkcs1 (key_secret line.key) key) where
     pub root_refused : (e : IssueError) → RefusesBySteps errors.Memory (root_steps demo_scheme word grant (IsRootBuilder grant given key)) e → e ≢ errors.Memory → IsFirstUntaken (root_step grant ∷ []) e
     root_refused e (inr memory) other = absurd (other memory)
@@ -174,9 +178,12 @@ module _ (line : Line) (short : length line.name ≤ 64) (word : ℕ) (small : w
         absurd (other (unbuilt_memory source e same (untaken_for_memory line line b is.issuer (root_set grant given key line b is named private) word small short short source untaken)))
     root_refused e (inl (inr (taken, inr (built, none)))) other = absurd none
 
-    pub root_for : (cert : KeptCertificate) → IsBuiltBy demo_scheme word (IsRootBuilder grant given key) cert → IsForLine line cert
-    root_for cert by =
-        built_for line line by.builder by.is.issuer (root_set grant given key line by.builder by.is named private) word cert by.built
+    pub root_for : (cert : KeptCertificate) → IsBuiltBy demo_scheme word (IsRootBuilder grant given key) cert → IsAtPlace place line cert
+    root_for cert by = record {
+      for = built_for line line by.builder by.is.issuer (root_set grant given key line by.builder by.is named private) word cert by.built;
+      numbered = subst (λ (n : ℕ). IsUnsignedInteger n (integer_contents cert.certificate.tbs_certificate.serial_number)) word_is
+          (numbered grant by.builder word cert by.is.granted (omega (arith, word_is)) by.built);
+    }
 
   -- ---- what refuses a child
 
@@ -218,8 +225,41 @@ module _ (line : Line) (short : length line.name ≤ 64) (word : ℕ) (small : w
     pub child_taken : (entries : List Entry) → AreTaken (child_steps demo_scheme word certificates issuer IsChild entries) → AreTaken (record_steps entries issuer)
     child_taken entries taken = (taken.0, (taken.1.0, (taken.1.1.0, tt)))
 
-    pub child_for : (cert : KeptCertificate) → IsIssuedCert demo_scheme word certificates issuer IsChild cert → IsForLine line cert
+    pub child_for : (cert : KeptCertificate) → IsIssuedCert demo_scheme word certificates issuer IsChild cert → IsAtPlace place line cert
     child_for cert is =
         let under = is.under in
+        let by = under.by in
         let of = signer under.parent under.has in
-        built_for of.0 line under.by.builder under.by.is.issuer (child_set grant given own private signs under.parent of.0 line under.by.builder under.by.is of.1 named keys of.3) word cert under.by.built
+        record {
+          for = built_for of.0 line by.builder by.is.issuer (child_set grant given own private signs under.parent of.0 line by.builder by.is of.1 named keys of.3) word cert by.built;
+          numbered = subst (λ (n : ℕ). IsUnsignedInteger n (integer_contents cert.certificate.tbs_certificate.serial_number)) word_is
+              (numbered grant by.builder word cert by.is.for.granted (omega (arith, word_is)) by.built);
+        }
+
+-- ---- no line yet
+
+nothing_in : (ahead behind : List Line) (line : Line) → ◌≡◌ {A = List Line} [] (ahead ++ line ∷ behind) → ⊥
+nothing_in [] behind line e = absurd cc
+nothing_in (first ∷ ahead) behind line e = absurd cc
+
+nothing_at : (place : ℕ) (line : Line) → slice_get {X = Line} [] place ≡ Some line → ⊥
+nothing_at place line e = absurd cc
+
+empty_filled : IsFilled [] [] []
+empty_filled = record {
+  recorded = refl;
+  issuable = λ ahead behind line are. absurd (nothing_in ahead behind line are);
+  each = λ place line cert at has. absurd (nothing_at place line at);
+}
+
+pub no_lines : (lines : List Line) (entries : List Entry) (certificates : List KeptCertificate) → entries ≡ [] → certificates ≡ [] → IsFilled (take 0 lines) entries certificates
+no_lines lines entries certificates none also =
+    subst (λ (es : List Entry). IsFilled [] es certificates) (sym none) (subst (λ (cs : List KeptCertificate). IsFilled [] [] cs) (sym also) empty_filled)
+
+-- all lines
+pub all_lines : (lines : List Line) (place : ℕ) (entries : List Entry) (certificates : List KeptCertificate) → length lines ≤ place → IsFilled (take place lines) entries certificates → IsFilled lines entries certificates
+all_lines lines place entries certificates all = subst (λ (ls : List Line). IsFilled ls entries certificates) (take_all place lines all)
+
+-- the line at a place, as it is stored
+pub line_at : (lines : List RegisterLine) (place : ℕ) (held : RegisterLine) → place < length lines → held ≡ slice_index_or lines place held → slice_get (map line_held lines) place ≡ Some (line_held held)
+line_at lines place held within read = slice_get-map line_held lines place ∙ ap (option_map line_held) (slice_get_read lines (length lines) place held refl within read)

@@ -1,8 +1,11 @@
 -- The certificate of a line is refused for memory alone, and is for the line.
-use Rattle.std.proofs.Common.{◌≡◌, ◌⊎◌, inl, inr, Bool, true, false, ℕ, ◌<◌, ◌≤◌, List, [], ◌∷◌, ◌++◌, length, Option, Some, None, sym, ap, subst, ◌∙◌}
+use Rattle.std.proofs.Common.{◌≡◌, ◌⊎◌, inl, inr, Bool, true, false, ℕ, ◌<◌, ◌≤◌, ◌==◌, if◌then◌else◌, List, [], ◌∷◌, ◌++◌, length, Option, Some, None, refl, sym, ap, subst, ◌∙◌, arith}
 use Rattle.std.specs.Prelude.{⊤}
+use Rattle.std.proofs.lemmas.Bool.{eqb-true}
 use Rattle.der_core.specs.Refusals.{Wraps}
 use Rattle.der_core.specs.Steps.{IsFirstUntaken, RefusesBySteps, Step}
+use Rattle.asn1_types.specs.Integer.{IsUnsignedInteger}
+use Rattle.asn1_types.specs.Values.{integer_contents}
 use Rattle.asn1_types.specs.declared.oids.TheConstants.{CE_SUBJECT_KEY_IDENTIFIER}
 use Rattle.asn1_types.specs.declared.generalized_time.GeneralizedTime.{GeneralizedTime}
 use Rattle.sig_core.specs.DemoScheme.{demo_verdict}
@@ -32,7 +35,7 @@ use Rattle.x509_core.specs.declared.error.CertError.{CertError}
 use Rattle.x509_core.specs.declared.error.CertError.TheVariants as errors
 use Rattle.x509_core.proofs.Validity.{same_some}
 use Rattle.x509_issuing.specs.BuildRefusals.{no_half, no_key_id, no_octets, no_signature}
-use Rattle.x509_issuing.specs.BuiltCertificate.{IsTbsFor}
+use Rattle.x509_issuing.specs.BuiltCertificate.{IsTbsFor, serial_of}
 use Rattle.x509_issuing.specs.Building.{IsBuilt, IsMade, algorithm_step, build_steps, given_steps, identifier_step, message_of, octets_step, signature_step, steps_by, subject_steps, tbs_written, whole_step}
 use Rattle.x509_issuing.specs.KeptRequest.{KeptRequest}
 use Rattle.x509_issuing.specs.declared.builder.CertificateBuilder.{CertificateBuilder}
@@ -40,8 +43,10 @@ use Rattle.x509_issuing.specs.declared.builder.IssuerInfos.{IssuerInfos}
 use Rattle.x509_issuing.specs.declared.builder.SubjectInfos.{SubjectInfos}
 use Rattle.x509_issuing.specs.declared.builder.SubjectInfos.TheVariants as subjects
 use Rattle.x509_issuing.proofs.WantedExtensions.{built_key}
+use Rattle.ca_register.specs.Granting.{IsGranted}
 use Rattle.ca_register.specs.LineCertificates.{IsForLine}
 use Rattle.ca_register.specs.LineKeys.{key_secret}
+use Rattle.ca_register.specs.declared.entry.Grant.{Grant}
 use Rattle.ca_register.proofs.KeyPairs.{demo_pair, demo_scheme, signs_by_demo}
 use Rattle.ca_register.proofs.KeyRefusals.{half_or_memory, identifier_or_memory, signature_or_memory}
 use Rattle.ca_register.proofs.LineBuilders.{HasSubject, IsSetFor, subject_is}
@@ -138,3 +143,18 @@ module _ (signer line : Line) (b : CertificateBuilder) (issuer : IssuerInfos) (s
   built_for is =
       let same : is.issuer ≡ issuer = same_some is.issuer issuer (sym is.given ∙ set.given) in
       made_for (subst (λ (i : IssuerInfos). IsMade demo_scheme b.signature_hash_type i.key.now (IsTbsFor demo_verdict b i word) cert) same is.made)
+
+-- its serial number is the word, unless that is 0
+pick : (test : Bool) (word : ℕ) → (word == 0) ≡ test → 0 < word → (if test then 1 else word) ≡ word
+pick true word e some = absurd (omega (arith, eqb-true word 0 e, some))
+pick false word e some = refl
+
+word_is : (given : Option (List ℕ)) (word : ℕ) → given ≡ None → 0 < word → serial_of given word ≡ word
+word_is None word none some = pick (word == 0) word refl some
+word_is (Some octets) word none some = absurd cc
+
+pub numbered : (grant : Grant) (b : CertificateBuilder) (word : ℕ) (cert : KeptCertificate) → IsGranted grant b → 0 < word → IsBuilt demo_scheme b word cert
+    → IsUnsignedInteger word (integer_contents cert.certificate.tbs_certificate.serial_number)
+numbered grant b word cert granted some is =
+    subst (λ (n : ℕ). IsUnsignedInteger n (integer_contents cert.certificate.tbs_certificate.serial_number)) (word_is b.serial_number word granted.serial_number some)
+    is.made.made.tbs.by.issued_by.numbered

@@ -37,10 +37,18 @@ IsAnswerTo date lines TooDeep = IsRefusal lines (λ e. (ancestor : ℕ) × (e �
 
 -- ---- the line
 
+-- ca issued=N
+abbrev pub issued_text : ℕ → List ℕ
+issued_text issued = codes "ca issued=" ++ decimal issued
+
+-- ca issued=N accepted=K
+abbrev pub count_line : (issued accepted : ℕ) → List ℕ
+count_line issued accepted =
+    issued_text issued ++ (codes " accepted=" ++ decimal accepted ++ newline ∷ [])
+
 -- the line that reports an answer
 abbrev pub report_line : Answer → List ℕ
-report_line (Counted issued accepted) =
-    codes "ca issued=" ++ decimal issued ++ codes " accepted=" ++ decimal accepted ++ newline ∷ []
+report_line (Counted issued accepted) = count_line issued accepted
 report_line NoIssuer = codes "refused NoIssuer" ++ newline ∷ []
 report_line NotCa = codes "refused NotCa" ++ newline ∷ []
 report_line TooDeep = codes "refused TooDeep" ++ newline ∷ []

@@ -1,7 +1,9 @@
 -- The certificates of a register's lines: the subject of each is the line's.
-use Rattle.std.specs.Prelude.{◌≡◌, ℕ, List, [], ◌∷◌, Some}
+use Rattle.std.specs.Prelude.{◌≡◌, ℕ, ◌+◌, List, [], ◌∷◌, Some}
 use Rattle.std.specs.List.{slice_get}
 use Rattle.asn1_types.specs.Elements.{object_identifier_of}
+use Rattle.asn1_types.specs.Integer.{IsUnsignedInteger}
+use Rattle.asn1_types.specs.Values.{integer_contents}
 use Rattle.asn1_types.specs.declared.oids.TheConstants.{AT_COMMON_NAME, CE_SUBJECT_KEY_IDENTIFIER}
 use Rattle.der_core.specs.DerElement.{DerElement, Primitive}
 use Rattle.der_core.specs.Elements.{sequence, set}
@@ -32,8 +34,14 @@ pub record IsForLine (line : Line) (cert : KeptCertificate) : Type 0 where
       (extensions_in cert.certificate.tbs_certificate.extensions)
       (views.SubjectKeyIdentifier (key_id_of line.key))
 
+-- The certificate is for the line at a place, and its serial number is one more than the place.
+pub record IsAtPlace (place : ℕ) (line : Line) (cert : KeptCertificate) : Type 0 where
+  pub for : IsForLine line cert
+  pub numbered : IsUnsignedInteger (place + 1)
+      (integer_contents cert.certificate.tbs_certificate.serial_number)
+
 -- each certificate is for the line at its place
 abbrev pub AreForLines : List Line → List KeptCertificate → Type 0
 AreForLines lines certificates =
     (place : ℕ) (line : Line) (cert : KeptCertificate) → slice_get lines place ≡ Some line
-    → HasCert certificates place cert → IsForLine line cert
+    → HasCert certificates place cert → IsAtPlace place line cert

@@ -1,6 +1,7 @@
 //! The line that a run reports, and its status.
 
 ghost use Rattle.std.specs.Prelude.{◌≡◌, IfOk, string_bytes};
+ghost use Rattle.ca_register.specs.Answer.{count_line, issued_text};
 ghost use Rattle.ca_register.specs.Inquiry.{IsReportOf};
 
 use program_frame::{ACCEPTED, REFUSED, Report};
@@ -26,12 +27,26 @@ pub(crate) fn report_of(alloc: Global, answer: Answer) -> Result<Report, AllocEr
     match answer {
         Answer::Counted { issued, accepted } => Ok(Report {
             status: ACCEPTED,
-            line: format!(in alloc; "ca issued={issued} accepted={accepted}\n")?,
+            line: count_line(alloc, issued, accepted)?,
         }),
         Answer::NoIssuer => refusal(alloc, "refused NoIssuer\n"),
         Answer::NotCa => refusal(alloc, "refused NotCa\n"),
         Answer::TooDeep => refusal(alloc, "refused TooDeep\n"),
     }
+}
+
+/// The line of a count, `ca issued=N accepted=K` and a newline.
+fn count_line(alloc: Global, issued: usize, accepted: usize) -> Result<String, AllocError>
+    ensures { IfOk result (λ line. string_bytes line ≡ count_line issued accepted) }
+{
+    let issued = issued_text(alloc, issued)?;
+    format!(in alloc; "{issued} accepted={accepted}\n")
+}
+
+fn issued_text(alloc: Global, issued: usize) -> Result<String, AllocError>
+    ensures { IfOk result (λ text. string_bytes text ≡ issued_text issued) }
+{
+    format!(in alloc; "ca issued={issued}")
 }
 
 fn refusal(alloc: Global, line: &str) -> Result<Report, AllocError>
