@@ -102,15 +102,18 @@ child_set grant given own private key parent signer line b is of named keys sign
   given = is.given;
   named = ap name is.named ∙ of.named;
   private = subst (IsPrivatePkcs1 (key_secret signer.key)) (sym is.keyed) signs;
-  has = inr (is.other, record {
-    authority = identified_as signer parent b.authority_key_identifier of is.identified;
-    given = given;
-    own = own;
-    is = is.for.given;
-    named = named;
-    private = private;
-    keys = keys;
-  });
+  has = inr (
+    is.other,
+    record {
+      authority = identified_as signer parent b.authority_key_identifier of is.identified;
+      given = given;
+      own = own;
+      is = is.for.given;
+      named = named;
+      private = private;
+      keys = keys;
+    },
+  );
   plain = plain_child is.issuer.self_signed b.inherits b.subject_infos is.for.inherited;
 }
 

@@ -113,14 +113,7 @@ fn issue_child(
     let signer = key_or_memory(private_key_of(alloc, signer_of(lines, issuer)))?;
     let name = name_of(alloc, line)?;
     let key = key_or_memory(public_key_of(alloc, line.key))?;
-    register.child(
-        issuer,
-        &signer,
-        name,
-        key,
-        grant_of(line),
-        place as u32 + 1,
-    )
+    register.child(issuer, &signer, name, key, grant_of(line), place as u32 + 1)
 }
 
 /// The number of the key of the line at this place, 0 if there is none.
