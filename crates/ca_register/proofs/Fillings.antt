@@ -1,5 +1,5 @@
 -- A register after one line more, and what refuses a line.
-use Rattle.std.proofs.Common.{◌≡◌, ◌≢◌, ◌<◌, ◌≤◌, ◌⊎◌, ℕ, zero, suc, ◌+◌, false, List, [], ◌∷◌, ◌++◌, length, take, drop, map, slice_index_or, Option, Some, None, option_map, Result, Ok, Err, inl, inr, refl, sym, ap, subst, ◌∙◌, arith}
+use Rattle.std.proofs.Common.{◌≡◌, ◌≢◌, ◌<◌, ◌≤◌, ◌⊎◌, ℕ, zero, suc, ◌+◌, false, List, [], ◌∷◌, ◌++◌, length, take, drop, map, slice_index_or, Option, Some, None, option_map, Result, Ok, Err, IfOk, IfErr, MatchResult, inl, inr, refl, sym, ap, subst, ◌∙◌, arith}
 use Rattle.std.specs.List.{AllByRecursion, slice_get}
 use Rattle.std.proofs.lemmas.List.{length-append, length-map, take_all}
 use Rattle.std.proofs.lemmas.Option.{slice_get-map, slice_get_read, slice_get_within}
@@ -197,7 +197,11 @@ module _ (line : Line) (short : length line.name ≤ 64) (place word : ℕ) (wor
         let of = signer parent has in
         pairs of.0.key of.1.private signs parent.certificate.tbs_certificate.subject_public_key_info of.1.keys of.3
 
-    never_built : (e : IssueError) → IsFirstUntaken (signed_steps demo_scheme word certificates issuer IsChild) e → e ≢ errors.Memory → ((source : SignatureError) → e ≡ errors.WrongKey source → ⊥) → ⊥
+    -- the error isn't that the key is wrong
+    abbrev Right : IssueError → Type 0
+    Right e = (parent : KeptCertificate) → HasCert certificates issuer parent → (source : SignatureError) → e ≡ errors.WrongKey source → ⊥
+
+    never_built : (e : IssueError) → IsFirstUntaken (signed_steps demo_scheme word certificates issuer IsChild) e → e ≢ errors.Memory → Right e → ⊥
     never_built e (inl (parent, b, has, is, (source, same, untaken))) other right =
         let of = signer parent has in
         other (unbuilt_memory source e same
@@ -206,16 +210,16 @@ module _ (line : Line) (short : length line.name ≤ 64) (place word : ℕ) (wor
       where
         by : (source : SignatureError) → e ≡ wrong_key source → ⊥
         by signature.Memory is = other is
-        by (signature.Key s) is = right (signature.Key s) is
-        by (signature.Rsa s) is = right (signature.Rsa s) is
-        by (signature.Ec s) is = right (signature.Ec s) is
-        by (signature.Ed s) is = right (signature.Ed s) is
-        by signature.BadSignature is = right signature.BadSignature is
-        by (signature.UnsupportedAlgorithm s) is = right (signature.UnsupportedAlgorithm s) is
+        by (signature.Key s) is = right under.parent under.has (signature.Key s) is
+        by (signature.Rsa s) is = right under.parent under.has (signature.Rsa s) is
+        by (signature.Ec s) is = right under.parent under.has (signature.Ec s) is
+        by (signature.Ed s) is = right under.parent under.has (signature.Ed s) is
+        by signature.BadSignature is = right under.parent under.has signature.BadSignature is
+        by (signature.UnsupportedAlgorithm s) is = right under.parent under.has (signature.UnsupportedAlgorithm s) is
     never_built e (inr (built, inr (signed, none))) other right = none
 
     pub child_refused : (entries : List Entry) (e : IssueError) → RefusesBySteps errors.Memory (child_steps demo_scheme word certificates issuer IsChild entries) e → e ≢ errors.Memory
-        → ((source : SignatureError) → e ≡ errors.WrongKey source → ⊥) → IsFirstUntaken (record_steps entries issuer) e
+        → Right e → IsFirstUntaken (record_steps entries issuer) e
     child_refused entries e (inr memory) other right = absurd (other memory)
     child_refused entries e (inl (inl refused)) other right = inl refused
     child_refused entries e (inl (inr (taken, inl refused))) other right = inr (taken, inl refused)
@@ -263,3 +267,70 @@ all_lines lines place entries certificates all = subst (λ (ls : List Line). IsF
 -- the line at a place, as it is stored
 pub line_at : (lines : List RegisterLine) (place : ℕ) (held : RegisterLine) → place < length lines → held ≡ slice_index_or lines place held → slice_get (map line_held lines) place ≡ Some (line_held held)
 line_at lines place held within read = slice_get-map line_held lines place ∙ ap (option_map line_held) (slice_get_read lines (length lines) place held refl within read)
+
+-- ---- results
+
+pub ok_holds : {A E : Type 0} (P : A → Type 0) (Q : E → Type 0) (r : Result A E) (x : A) → r ≡ Ok x → MatchResult r P Q → P x
+ok_holds P Q (Ok y) x is h = subst P (ok_once y x is) h
+  where
+    ok_once : {A E : Type 0} (a b : A) → ◌≡◌ {A = Result A E} (Ok a) (Ok b) → a ≡ b
+    ok_once a b e = cc
+ok_holds P Q (Err e) x is h = absurd cc
+
+-- what an issued root leads to
+module _ (lines : List Line) (place : ℕ) (line : Line) (at : slice_get lines place ≡ Some line) (of : IsLine line) (root : line.issuer ≡ None) (word next : ℕ) (word_is : word ≡ place + 1) (next_is : next ≡ suc place) (small : word < 256)
+    (grant : Grant) (granted : grant ≡ grant_of line) (given : DirectoryName) (named : name (sets_of given) ≡ common_name line.name) (key : PrivateKey) (private : IsPrivatePkcs1 (key_secret line.key) key)
+    (entries : List Entry) (certificates : List KeptCertificate) (all : length certificates ≡ length entries) (filled : IsFilled (take place lines) entries certificates) where
+  abbrev RootAnswer : Result ℕ IssueError → Type 0
+  RootAnswer r = MatchResult r (λ _. AreTaken (root_steps demo_scheme word grant (IsRootBuilder grant given key))) (RefusesBySteps errors.Memory (root_steps demo_scheme word grant (IsRootBuilder grant given key)))
+
+  pub root_filled : (r : Result ℕ IssueError) (more : List Entry) (longer : List KeptCertificate) → RootAnswer r
+      → IfOk r (Adds (record { issuer = None; grant = grant }) (IsBuiltBy demo_scheme word (IsRootBuilder grant given key)) entries more certificates longer)
+      → IfOk r (λ _. IsFilled (take next lines) more longer)
+  root_filled (Ok x) more longer taken added =
+      next_filled lines place line at entries certificates filled None grant (IsBuiltBy demo_scheme word (IsRootBuilder grant given key)) more longer x next next_is all root granted added
+      (root_for line of.name.most place word word_is small grant given named key private) (taken.0, tt)
+  root_filled (Err e) more longer taken added = tt
+
+  pub root_unfilled : (r : Result ℕ IssueError) → RootAnswer r → IfErr r (λ e. e ≢ errors.Memory → IsFirstRefused lines e)
+  root_unfilled (Ok x) taken = tt
+  root_unfilled (Err e) refused = λ other.
+      first_refused lines place line at entries certificates filled None grant e root granted (root_refused line of.name.most place word word_is small grant given named key private e refused other)
+
+-- what an issued child leads to
+module _ (lines : List Line) (place : ℕ) (line : Line) (at : slice_get lines place ≡ Some line) (each : AllByRecursion IsLine lines) (issuer : ℕ) (by : line.issuer ≡ Some issuer) (word next : ℕ) (word_is : word ≡ place + 1) (next_is : next ≡ suc place) (small : word < 256)
+    (grant : Grant) (granted : grant ≡ grant_of line) (given : DirectoryName) (named : name (sets_of given) ≡ common_name line.name) (own : PublicKey) (keys : (private : PrivateKey) × AreLineKeys line.key private (info_of own))
+    (number : ℕ) (key_at : IsKeyAt lines issuer number) (signs : PrivateKey) (private : IsPrivatePkcs1 (key_secret number) signs)
+    (entries : List Entry) (certificates : List KeptCertificate) (all : length certificates ≡ length entries) (filled : IsFilled (take place lines) entries certificates) where
+  of_line : IsLine line
+  of_line = holds_at IsLine lines place line each at
+
+  signer : (parent : KeptCertificate) → HasCert certificates issuer parent → (s : Line) × IsForLine s parent × (length s.name ≤ 64) × IsPrivatePkcs1 (key_secret s.key) signs
+  signer parent has =
+      let found = signer_at lines place line at entries certificates filled issuer parent all has in
+      let read = holds_at IsLine lines issuer found.signer each found.at_issuer in
+      (found.signer, found.for, read.name.most, subst (λ (k : ℕ). IsPrivatePkcs1 (key_secret k) signs) (key_at found.signer found.at_issuer) private)
+
+  abbrev IsGivenChild : KeptCertificate → CertificateBuilder → Type 0
+  IsGivenChild = IsChildBuilder grant (subjects.Named given own) false signs
+
+  abbrev ChildAnswer : Result ℕ IssueError → Type 0
+  ChildAnswer r = MatchResult r (λ _. AreTaken (child_steps demo_scheme word certificates issuer IsGivenChild entries)) (RefusesBySteps errors.Memory (child_steps demo_scheme word certificates issuer IsGivenChild entries))
+
+  pub child_filled : (r : Result ℕ IssueError) (more : List Entry) (longer : List KeptCertificate) → ChildAnswer r
+      → IfOk r (Adds (record { issuer = Some issuer; grant = grant }) (IsIssuedCert demo_scheme word certificates issuer IsGivenChild) entries more certificates longer)
+      → IfOk r (λ _. IsFilled (take next lines) more longer)
+  child_filled (Ok x) more longer taken added =
+      next_filled lines place line at entries certificates filled (Some issuer) grant (IsIssuedCert demo_scheme word certificates issuer IsGivenChild) more longer x next next_is all by granted added
+      (child_for line of_line.name.most place word word_is small grant given named own keys.0 keys.1 signs certificates issuer signer)
+      (child_taken line of_line.name.most place word word_is small grant given named own keys.0 keys.1 signs certificates issuer signer entries taken)
+  child_filled (Err e) more longer taken added = tt
+
+  pub child_unfilled : (r : Result ℕ IssueError) → ChildAnswer r
+      → ((parent : KeptCertificate) (source : SignatureError) → HasCert certificates issuer parent → IsKeyPair demo_pair signs parent.certificate.tbs_certificate.subject_public_key_info → r ≡ Err (errors.WrongKey source) → ⊥)
+      → IfErr r (λ e. e ≢ errors.Memory → IsFirstRefused lines e)
+  child_unfilled (Ok x) taken paired = tt
+  child_unfilled (Err e) refused paired = λ other.
+      first_refused lines place line at entries certificates filled (Some issuer) grant e by granted
+      (child_refused line of_line.name.most place word word_is small grant given named own keys.0 keys.1 signs certificates issuer signer entries e refused other
+      (λ parent has source is. paired parent source has (signer_pairs line of_line.name.most place word word_is small grant given named own keys.0 keys.1 signs certificates issuer signer parent has) (ap Err is)))

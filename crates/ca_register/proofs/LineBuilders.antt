@@ -90,7 +90,7 @@ key_once a b e = cc
 identified_as : (line : Line) (parent : KeptCertificate) (after : Option (List ℕ)) → IsForLine line parent
     → IsIdentifiedBy (extensions_in parent.certificate.tbs_certificate.extensions) None after → after ≡ Some (key_id_of line.key)
 identified_as line parent after of (inl (none, same)) = absurd (none_is_first CE_SUBJECT_KEY_IDENTIFIER.now _ _ none of.identified)
-identified_as line parent after of (inr (key, (first, same))) =
+identified_as line parent after of (inr (key, first, same)) =
     same ∙ ap Some (key_once key (key_id_of line.key) (first_once CE_SUBJECT_KEY_IDENTIFIER.now _ _ _ first of.identified))
 
 pub child_set : (grant : Grant) (given : DirectoryName) (own : PublicKey) (private : PrivateKey) (key : PrivateKey) (parent : KeptCertificate) (signer line : Line) (b : CertificateBuilder)

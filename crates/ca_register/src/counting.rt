@@ -6,9 +6,9 @@ ghost use Rattle.ca_register.specs.Counting.{IsAcceptedAt, IsCount, IsUsableAt};
 ghost use Rattle.ca_register.specs.Usable.{IsBetween};
 
 use crate::register::Register;
+use crate::usable::is_earlier;
 use names_core::UtcDate;
 use sig_core::Scheme;
-use std::cmp::Ordering;
 
 /// How many certificates are accepted at the date, by the entries alone.
 pub(crate) fn accepted_count<S: Scheme + Drop>(register: &Register<S>, date: &UtcDate) -> usize
@@ -46,14 +46,14 @@ fn is_usable<S: Scheme + Drop>(register: &Register<S>, place: usize, date: &UtcD
         register.now.certificates.items date.now place }
 {
     match register.usable(place) {
-        Some((from, to)) => is_between(&from, &to, date),
+        Some((from, to)) => is_between(from, to, *date),
         None => unreachable!(),
     }
 }
 
 /// Whether the date is between these, both included.
-fn is_between(from: &UtcDate, to: &UtcDate, date: &UtcDate) -> bool
-    ensures { IsTrue result ↔ IsBetween from.now to.now date.now }
+fn is_between(from: UtcDate, to: UtcDate, date: UtcDate) -> bool
+    ensures { IsTrue result ↔ IsBetween from to date }
 {
-    date.cmp(from) != Ordering::Less && to.cmp(date) != Ordering::Less
+    !is_earlier(date, from) && !is_earlier(to, date)
 }

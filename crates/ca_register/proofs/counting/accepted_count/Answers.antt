@@ -5,7 +5,7 @@ use Rattle.ca_register.proofs.counting.accepted_count.Goals as goal
 
 pub counted-accepted-requires : goal.counted-accepted-requires
 counted-accepted-requires g c =
-    record { few = count_low (IsUsableAt c.args.register.now.entries.items c.args.date.now) c.loop-place.place c.loop-place.accepted c.loop-place.invariant.usable (omega (arith, c.loop-place-test.true, c.requires.few, c.len.ensures.entries)) }
+    record { few = count_low (IsUsableAt c.args.register.now.entries.items c.args.date.now) c.loop-place.place c.loop-place.accepted c.loop-place.invariant.usable (omega (arith, c.loop-place-test.true, c.requires.few)) }
 
 pub loop-place-preserved : goal.loop-place-preserved
 loop-place-preserved g c =
