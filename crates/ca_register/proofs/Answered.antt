@@ -2,6 +2,7 @@
 use Rattle.std.proofs.Common.{◌≡◌, ◌≢◌, ◌⊎◌, ℕ, ◌+◌, ◌≤◌, List, [], ◌∷◌, length, Result, Ok, Err, IfOk, IfErr, MatchResult, inl, inr, refl, sym, ap, subst, ◌∙◌, arith}
 use Rattle.std.proofs.Math.Logic.{∥∥₁_map}
 use Rattle.std.specs.Prelude.{string_bytes}
+use Rattle.std.proofs.lemmas.List.{length-map}
 use Rattle.std.proofs.lemmas.List.Sums.{sum_by-cons}
 use Rattle.der_core.specs.Counts.{HasRisen}
 use Rattle.asn1_types.specs.declared.generalized_time.GeneralizedTime.{GeneralizedTime}
@@ -16,12 +17,16 @@ use Rattle.program_frame.specs.Shelf.{ShelfState}
 use Rattle.program_frame.specs.Sink.{Appends, IsCutShort, SinkState}
 use Rattle.register_text.specs.Lines.{HasBadLine, IsRegisterText, Line}
 use Rattle.sig_core.specs.DemoScheme.{demo_verdict}
+use Rattle.x509_core.specs.KeptCertificate.{KeptCertificate}
 use Rattle.ca_register.specs.Answer.{AreCounted, IsAnswerLine, IsAnswerTo, report_line, status_of, text_in}
-use Rattle.ca_register.specs.Counting.{IsCount, IsUsableAt}
+use Rattle.ca_register.specs.Authorities.{IsRegister}
+use Rattle.ca_register.specs.Counting.{IsAcceptedAt, IsCount, IsUsableAt}
+use Rattle.ca_register.specs.Filling.{IsFilled}
 use Rattle.ca_register.specs.Inquiry.{IsReportOf, IsReported, Reports}
-use Rattle.ca_register.specs.LineEntries.{IsFirstRefused, entries_of}
+use Rattle.ca_register.specs.LineEntries.{IsFirstRefused, entries_of, entry_of}
 use Rattle.ca_register.specs.Reported.{AreIssued, IsCountFor, IsCountLine, IsReportedCount}
 use Rattle.ca_register.specs.Words.{AsksFor, Job}
+use Rattle.ca_register.specs.declared.entry.Entry.{Entry}
 use Rattle.ca_register.specs.declared.error.IssueError.{IssueError}
 use Rattle.ca_register.specs.declared.error.IssueError.TheVariants as errors
 use Rattle.ca_register.specs.declared.report.Answer.{Answer}
@@ -89,6 +94,26 @@ module _ (date : GeneralizedTime) (lines : List Line) where
   counts NoIssuer report is h made zero = absurd (omega (arith, h.status, zero))
   counts NotCa report is h made zero = absurd (omega (arith, h.status, zero))
   counts TooDeep report is h made zero = absurd (omega (arith, h.status, zero))
+
+-- ---- what was issued
+
+counted_once : (a b c d : ℕ) → ◌≡◌ {A = Result Answer Stop} (Ok (Counted a b)) (Ok (Counted c d)) → b ≡ d
+counted_once a b c d e = cc
+
+-- the certificates of a filled register
+pub issued_count : (date : GeneralizedTime) (lines : List Line) (entries : List Entry) (certificates : List KeptCertificate) → IsFilled lines entries certificates → ∥ IsRegister demo_verdict entries certificates ∥₁
+    → (len number issued accepted : ℕ) → (IsRegister demo_verdict entries certificates → IsCount (IsAcceptedAt demo_verdict entries certificates date) (length entries) number)
+    → ◌≡◌ {A = Result Answer Stop} (Ok (Counted len number)) (Ok (Counted issued accepted)) → ∥ AreIssued date lines accepted ∥₁
+issued_count date lines entries certificates filled kept len number issued accepted count same = ∥∥₁_map kept (λ is.
+    let counted = subst (IsCount (IsAcceptedAt demo_verdict entries certificates date) (length entries)) (counted_once len number issued accepted same) (count is) in
+    let many : length entries ≡ length lines = ap (λ (es : List Entry). length es) filled.recorded ∙ length-map lines entry_of in
+    record {
+      certificates = certificates;
+      register = subst (λ (es : List Entry). IsRegister demo_verdict es certificates) filled.recorded is;
+      each = filled.each;
+      count = subst (λ (es : List Entry). IsCount (IsAcceptedAt demo_verdict es certificates date) (length lines) accepted) filled.recorded
+          (subst (λ (n : ℕ). IsCount (IsAcceptedAt demo_verdict entries certificates date) n accepted) many counted);
+    })
 
 -- ---- the text
 

@@ -1,5 +1,7 @@
-use Rattle.std.proofs.Common.{[], ◌∷◌, Err, ap, ◌∙◌, arith, sym, subst}
+use Rattle.std.proofs.Common.{[], ◌∷◌, List, ℕ, length, Err, ap, ◌∙◌, arith, sym, subst}
 use Rattle.std.proofs.lemmas.Result.{err_from_is_err_and}
+use Rattle.program_frame.specs.Limits.{IsWholeFile}
+use Rattle.program_frame.specs.ReadFiles.{HandsOut}
 use Rattle.program_frame.specs.Stops.{stop_for_file}
 use Rattle.program_frame.proofs.Failing.{failed_as, none_failed, one_error, stands}
 use Rattle.program_frame.proofs.Inquiries.{IsInquiry-read, IsInquiry-unread}
@@ -22,14 +24,21 @@ returns-in_err-text-clause-found g c =
 
 pub returns-clause-found : goal.returns-clause-found
 returns-clause-found g c =
-    IsInquiry-read (g.F.Shelf.state c.args.shelf.now) (g.F.Shelf.state c.read_file.new.shelf) (question_of (job_held c.args.job.now)) (c.in_ok-text.text.items ∷ [])
-    (read_alone (g.F.Shelf.state c.args.shelf.now) (g.F.Shelf.state c.read_file.new.shelf) c.args.job.now.file.now c.in_ok-text.text.items c.in_ok-text.ensures.whole c.in_ok-text.ensures.given)
+    let before = g.F.Shelf.state c.args.shelf.now in
+    let after = g.F.Shelf.state c.read_file.new.shelf in
+    let same = sym c.deref.ensures.value in
+    IsInquiry-read before after (question_of (job_held c.args.job.now)) (c.deref.result.now ∷ [])
+    (read_alone before after c.args.job.now.file.now c.deref.result.now (subst (IsWholeFile before.files c.args.job.now.file.now) same c.in_ok-text.ensures.whole) (subst (λ (octets : List ℕ). HandsOut (length octets) before after) same c.in_ok-text.ensures.given))
     c.report_on.result c.report_on.ensures.reported c.report_on.ensures.stopped c.report_on.ensures.only c.report_on.ensures.bad
 
 pub returns-clause-counted : goal.returns-clause-counted
 returns-clause-counted g c words asked =
-    counts_for (g.F.Shelf.state c.args.shelf.now) (g.F.Shelf.state c.read_file.new.shelf) words (job_held c.args.job.now) asked c.in_ok-text.text.items
-    c.in_ok-text.ensures.whole c.in_ok-text.ensures.given c.report_on.result c.report_on.ensures.counted
+    let before = g.F.Shelf.state c.args.shelf.now in
+    let after = g.F.Shelf.state c.read_file.new.shelf in
+    let same = sym c.deref.ensures.value in
+    counts_for before after words (job_held c.args.job.now) asked c.deref.result.now
+    (subst (IsWholeFile before.files c.args.job.now.file.now) same c.in_ok-text.ensures.whole) (subst (λ (octets : List ℕ). HandsOut (length octets) before after) same c.in_ok-text.ensures.given)
+    c.report_on.result c.report_on.ensures.counted
 
 pub returns-in_err-text-clause-once : goal.returns-in_err-text-clause-once
 returns-in_err-text-clause-once g c =
