@@ -71,7 +71,7 @@ fn earlier(first: UtcDate, second: UtcDate) -> UtcDate
 }
 
 /// Whether the first date is before the second.
-fn is_earlier(first: UtcDate, second: UtcDate) -> bool
+pub(crate) fn is_earlier(first: UtcDate, second: UtcDate) -> bool
     ensures { IsTrue result ↔ IsEarlier first second }
 {
     first.cmp(&second) == Ordering::Less
