@@ -76,7 +76,7 @@ def medians(program, folder, entries, depth, options):
 def main(words):
     parser = argparse.ArgumentParser(description="Time of a register's calls.")
     parser.add_argument("--rounds", type=int, default=5)
-    parser.add_argument("--times", type=int, default=10000)
+    parser.add_argument("--times", type=int, default=100000)
     parser.add_argument("--entries", type=int, default=100000)
     parser.add_argument("program", type=command.executable, help="the executable of xgolden_register")
     options = parser.parse_args(words)

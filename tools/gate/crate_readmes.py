@@ -9,7 +9,7 @@ Usage:
 writes in each `CRATES/NAME/README.md` two parts from the sources:
 
 - below `## Example` the block ```rust: the file
-  `CRATES/xtest_usage/src/readme/of_NAME.rt` up to its first `#[test]`, without
+  `CRATES/xtest_readme/src/of_NAME.rt` up to its first `#[test]`, without
   its `//!`, `ghost use` and `use std::test` (no module may have a library's
   name, so the file is called `of_NAME`);
 - between the lines `<!-- calls -->` and `<!-- /calls -->` the public calls of
@@ -356,7 +356,7 @@ def written(text, crate, crates):
         end = lines.index("```", start)
     except ValueError:
         raise Unusable(f"{readme} needs a block ```rust below ## Example") from None
-    file = crates / "xtest_usage" / "src" / "readme" / f"of_{crate.name}.rt"
+    file = crates / "xtest_readme" / "src" / f"of_{crate.name}.rt"
     lines[start + 1 : end] = example_text(file).splitlines()
     return "\n".join(lines) + "\n"
 

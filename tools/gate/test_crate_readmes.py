@@ -173,7 +173,7 @@ class Readmes(unittest.TestCase):
         for name, text in files.items():
             (self.source / f"{name}.rt").write_text(text, encoding="utf-8")
         self.readme = self.crates / "lib" / "README.md"
-        self.example = self.crates / "xtest_usage" / "src" / "readme" / "of_lib.rt"
+        self.example = self.crates / "xtest_readme" / "src" / "of_lib.rt"
         self.example.parent.mkdir(parents=True)
         self.example.write_text(EXAMPLE, encoding="utf-8")
 

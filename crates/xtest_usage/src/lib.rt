@@ -1,16 +1,11 @@
-//! The callers of `docs/USING.md` and of the libraries' READMEs, with tests. Their results are
-//! compared with OpenSSL, Python's `hashlib`, and what the scripts of `tools/` put together from
-//! the standards.
+//! The callers of `docs/USING.md`, with tests. Their results are compared with OpenSSL, Python's
+//! `hashlib`, and what the scripts of `tools/` put together from the standards.
 #![tactic(auto)]
 
 #[cfg(test)]
 mod algorithms;
 #[cfg(test)]
-mod asking;
-#[cfg(test)]
 mod certificates;
-#[cfg(test)]
-mod counting;
 #[cfg(test)]
 mod histories;
 #[cfg(test)]
@@ -23,8 +18,6 @@ mod names;
 mod private_keys;
 #[cfg(test)]
 mod reading;
-#[cfg(test)]
-mod readme;
 #[cfg(test)]
 mod schemes;
 #[cfg(test)]

@@ -1,6 +1,6 @@
 //! Questions about a chain, one after another; and as a program.
 
-use crate::readme::of_trust_anchors::{INT, LEAF, ROOT, certificate, certificates};
+use crate::of_trust_anchors::{INT, LEAF, ROOT, certificate, certificates};
 use program_frame::{MemShelf, MemSink};
 use sig_core::{DemoScheme, Scheme, SigAlg, Verdict};
 use signature_questions::{ChainQuestions, run};

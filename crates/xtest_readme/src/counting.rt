@@ -2,7 +2,7 @@
 
 ghost use Rattle.std.specs.Prelude.{◌≡◌, ◌<◌};
 
-use crate::readme::of_trust_anchors::{CROSS, INT, LEAF, ROOT, certificate, certificates};
+use crate::of_trust_anchors::{CROSS, INT, LEAF, ROOT, certificate, certificates};
 use names_core::UtcDate;
 use sig_core::{DemoScheme, Scheme};
 use std::alloc::Global;
