@@ -6,14 +6,14 @@ Usage:
     python3 bench/register/register.py [--rounds N] [--times N] [--entries N] PROGRAM
 
 PROGRAM is the executable of the crate `xgolden_register`.  A register has a root, a line of CAs below
-it, and certificates of the last CA.  Two markdown tables are printed.  The first is of registers of an
-eighth, a quarter, half and all of N entries (100,000 by default) with ten ancestors each: microseconds a
-certificate to issue and to verify, nanoseconds a call of `usable`, and the memory.  The second is of
-1,000 entries with 1, 10, 100 and 900 ancestors of the last: nanoseconds a call of `usable`.
+it, and certificates of the last CA.  Two markdown tables are printed.  The first is of registers of 200
+entries and of an eighth, a quarter, half and all of N (100,000 by default) with ten ancestors each:
+microseconds a certificate to issue and to verify, nanoseconds a call of `usable`, and the memory.  The
+second is of 1,000 entries with 1, 10, 100 and 900 ancestors of the last: nanoseconds a call of `usable`.
 
 The scheme is the demonstration's, which does no arithmetic: a signature is a digest.  The processor
 time is that of PROGRAM's own clock, and a figure is the median of the rounds.  The status is 1 if a
-certificate of the largest register takes more than 1.5 times as long as of the smallest, or `usable`
+certificate of the largest register takes more than 1.5 times as long as of one of an eighth, or `usable`
 there 1.5 times as long, else 0.  This is no part of the gate: the figures depend on the machine.
 """
 
@@ -36,6 +36,8 @@ GRANT = "-,20200101000000Z,20300101000000Z"
 MOST_GROWTH = 1.5
 DEPTHS = 1, 10, 100, 900
 DEPTH, SMALL = 10, 1000
+# As many as a file of `picky_ca` has lines at the most.
+LINES = 200
 
 
 class Figures(NamedTuple):
@@ -84,7 +86,7 @@ def main(words):
     sizes = [options.entries // part for part in (8, 4, 2, 1)]
     with tempfile.TemporaryDirectory() as name:
         folder = Path(name)
-        by_size = {size: medians(program, folder, size, DEPTH, options) for size in sizes}
+        by_size = {size: medians(program, folder, size, DEPTH, options) for size in (LINES, *sizes)}
         by_depth = {depth: medians(program, folder, SMALL, depth, options) for depth in DEPTHS}
     print(f"{options.rounds} rounds, load {os.getloadavg()[0]:.0f}\n")
     print("| entries | issue us | verify us | usable ns | resident MiB |\n|---:|---:|---:|---:|---:|")
