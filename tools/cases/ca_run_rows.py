@@ -1,13 +1,16 @@
 """Rows of `xgolden_run`: whole runs of `picky_ca`, each with the reason why it is there.
 
 The status and the line of each come from `register_lines`; of those whose answer is known by hand it has to be that.
-`rows` has them by name, `drawn` as many texts as asked for, drawn at random: trees of certificates up to 20 deep, with
+`known` has them by name, `drawn` as many texts as asked for, drawn at random: trees of certificates up to 20 deep, with
 each reason to refuse one, and now and then a line that isn't in the form.
 """
 
 from random import Random
 
+from cases.anchor_run_rows import ROOM, USAGE
 from judges.register_lines import BAD, answer
+
+DRAWN = 300
 
 ROOT = "root 11 R - 2020-01-01 2030-01-01\n"
 INT = "child 0 12 I y 0 2021-01-01 2029-01-01\n"
@@ -43,7 +46,7 @@ def moment_of(word):
     return "".join(filter(str.isdigit, word)).ljust(14, "0")
 
 
-def rows():
+def known():
     """The text, the date, the status and the line, and why."""
     for text, word, expected, why in KNOWN:
         if answer(text, moment_of(word)) != expected:
@@ -71,9 +74,31 @@ def drawn_text(chance):
     return text
 
 
-def drawn(number=1000, seed=49):
+def drawn(number, seed=49):
     """So many texts with a date, and status and line of each."""
     chance = Random(seed)
     for _ in range(number):
         text, word = drawn_text(chance), chance.choice(DAYS)
         yield text, word, answer(text, moment_of(word))
+
+
+def words():
+    """Words that are no command, and why."""
+    for asked in [], ["f"], ["f", SUMMER, SUMMER], ["f", "f", SUMMER], [SUMMER, "f"], ["--help"], ["demo", "2"]:
+        yield asked, f"the words {asked}"
+    for date in ("2025-02-29", "2024-6-1", "20240601", "2024-06-01T00:00", "2024-06-01T24:00:00", "2024-06-01T23:59:60", "2024-06-01Z", "now", "10000-01-01"):
+        yield ["f", date], f"the date {date}"
+
+
+def all_cases():
+    """The room, the call that fails, the files, the words, status and line, and why."""
+    for text, word, expected, why in known():
+        yield ROOM, None, {"f": text.encode()}, ["f", word], expected, why
+    for text, word, expected in drawn(DRAWN):
+        yield ROOM, None, {"f": text.encode()}, ["f", word], expected, "drawn"
+    for text in CHAIN.replace("R", "\xc5"), CHAIN.replace("\n", "\r\n"), CHAIN + "\n", "\n" + CHAIN, CHAIN + "\0":
+        yield ROOM, None, {"f": text.encode()}, ["f", SUMMER], BAD, "other octets"
+    for asked, why in words():
+        yield ROOM, None, {"f": CHAIN.encode()}, asked, USAGE, why
+    yield ROOM, 0, {"f": CHAIN.encode()}, ["f"], USAGE, "nothing is read if the words are no command"
+    yield ROOM, None, {"f": CHAIN.encode(), "g": b"root"}, ["f", SUMMER], answer(CHAIN, moment_of(SUMMER)), "a file that isn't named"
