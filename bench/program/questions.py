@@ -44,7 +44,8 @@ def measured(words):
     clock, processor, resident, status = figures.split()
     if int(status) != 0:
         sys.exit(f"{' '.join(map(str, words))}: status {int(status)}")
-    return float(clock), float(processor), int(resident), output.count(b"\n") + (output != b"")
+    # Behind the lines `measure.py` prints an empty one.
+    return float(clock), float(processor), int(resident), output.count(b"\n")
 
 
 def of_links(size):
