@@ -1,12 +1,12 @@
 """Rows of `xgolden_run` on failing shelves, sinks that are too small, and files at the greatest length, for all programs.
 
-A program is added by a line of `commands`; runs of `picky_anchor` and `picky_ask` have rows of their own too.  Status and line are those of docs/MANUAL.md; that a command is accepted
+A program is added by a line of `commands`; runs of `picky_anchor`, `picky_ask` and `picky_ca` have rows of their own too.  Status and line are those of docs/MANUAL.md; that a command is accepted
 is what the rules of each program say of the files, which other rows show.
 """
 
 from dataclasses import dataclass
 
-from cases import anchor_run_rows, ask_run_rows
+from cases import anchor_run_rows, ask_run_rows, ca_run_rows
 from cases.anchor_rows import CODE, CROSS, INT, LEAF, ROOT
 from cases.anchor_run_rows import ROOM, SHELF, SINK, table_for
 from cases.check_making import file
@@ -78,6 +78,10 @@ def of_question():
     yield Command("picky_ask", ("--chain", *members), members, line, dict.fromkeys(members, NO_ELEMENT))
 
 
+def of_register(text, line, status=0):
+    return Command("picky_ca", ("r", DAY), {"r": text.encode()}, line, {} if status else {"r": TABLE}, status)
+
+
 class FirstPath:
     octets, table = signature_file(), verdict_line()
 
@@ -98,6 +102,8 @@ def commands():
     yield of_anchor([ROOT], LEAF, [CROSS, INT], "anchored pool=1 anchor=0")
     yield of_anchor([ROOT], LEAF, [], "refused NoAnchoredPath", 1)
     yield from of_question()
+    yield of_register(ca_run_rows.CHAIN, "ca issued=3 accepted=3")
+    yield of_register(ca_run_rows.CHAIN + "child 2 14 X n - 2022-01-01 2023-01-01\n", "refused NotCa", 1)
 
 
 # The rows: the program, the room, the call that fails, the files, the words, status and line.
@@ -141,6 +147,8 @@ def rows():
         yield row("picky_anchor", *case[:-1])
     for case in ask_run_rows.all_cases():
         yield row("picky_ask", *case[:-1])
+    for case in ca_run_rows.all_cases():
+        yield row("picky_ca", *case[:-1])
     for one in commands():
         for case in of_command(one):
             yield row(one.program, *case)

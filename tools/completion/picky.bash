@@ -66,6 +66,14 @@ _picky_ask() {
     fi
 }
 
+_picky_ca() {
+    case $COMP_CWORD in
+        1) _picky_files "" "$2" ;;
+        2) _picky_words "$2" "$(date -u +%Y-%m-%d)" ;;
+        *) COMPREPLY=() ;;
+    esac
+}
+
 _check_program() {
     case $3 in
         --at) _picky_words "$2" "$(date -u +%Y-%m-%d)" ;;
@@ -88,4 +96,5 @@ complete -F _picky picky
 complete -F _picky_pe picky_pe
 complete -F _picky_anchor picky_anchor
 complete -F _picky_ask picky_ask
+complete -F _picky_ca picky_ca
 complete -F _check_program check_program.py

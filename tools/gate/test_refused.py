@@ -102,7 +102,7 @@ class CommandsTest(unittest.TestCase):
             self.assertLessEqual(one.zeros.keys(), one.files.keys())
             self.assertLessEqual(one.files.keys(), set(one.words))
             names.add(one.program)
-        self.assertEqual(names, {"picky", "picky_pe", "picky_anchor", "picky_ask"})
+        self.assertEqual(names, {"picky", "picky_pe", "picky_anchor", "picky_ask", "picky_ca"})
 
     def test_greatest_files(self):
         lengths = [len(octets) * count for octets, count in (run_rows.GREATEST, run_rows.TOO_GREAT)]

@@ -6,11 +6,12 @@ Usage:
     python3 tools/golden/xgolden_register.py FOLDER
     python3 tools/golden/xgolden_register.py --count
 
-The first writes FOLDER/data/rows and FOLDER/stdout.  The calls are those of `drawn_registers`, and
-`register_judge` says what each returns and which certificates are accepted.
+The first writes FOLDER/data/rows and FOLDER/stdout.  The calls are those of `drawn_registers` and of
+`enrolled_requests`, and `register_judge` says what each returns and which certificates are accepted.
+`tools/interop/enrolled_requests.py --check` has openssl read what is issued for requests of openssl.
 
-The second prints how often each answer comes, how many certificates there are, and how many of them
-are accepted, by the number of their ancestors.
+The second prints how often each answer comes in `drawn_registers`, how many certificates there are,
+and how many of them are accepted, by the number of their ancestors.
 """
 
 import sys
@@ -19,6 +20,7 @@ from pathlib import Path
 
 sys.path.insert(0, str(Path(__file__).resolve().parents[1]))
 
+from cases import enrolled_requests
 from cases.drawn_registers import registers
 from common import command
 from golden.stored_run import write_stored_run
@@ -40,15 +42,15 @@ def row(date, calls):
 
 def line(date, calls):
     records, words = answers(calls)
-    marks = "".join("1" if is_accepted(records, place, date) else "0" for place in range(len(records)))
+    marks = "".join("1" if is_accepted(records, index, date) else "0" for index in range(len(records)))
     return " ".join([*(word for answer in words for word in answer), marks])
 
 
 def stored_files():
     """The octets of each file, by its path below the folder."""
-    drawn = registers()
-    texts = {"data/rows": row, "stdout": line}
-    return {path: "".join(f"{of(*register)}\n" for register in drawn).encode() for path, of in texts.items()}
+    drawn = [(row(*register), line(*register)) for register in registers()]
+    rows, lines = zip(*drawn, *enrolled_requests.rows())
+    return {path: "".join(f"{text}\n" for text in texts).encode() for path, texts in (("data/rows", rows), ("stdout", lines))}
 
 
 def counted():

@@ -5,8 +5,8 @@ Usage:
 
     python3 tools/golden/xgolden_run.py FOLDER
 
-It writes FOLDER/data/rows and FOLDER/stdout.  Rows and lines come from `run_rows` and, for `picky_anchor` and
-`picky_ask`, from `anchor_run_rows`, which rests on a search of its own, and `ask_run_rows`.
+It writes FOLDER/data/rows and FOLDER/stdout.  Rows and lines come from `run_rows` and, for `picky_anchor`, `picky_ask`
+and `picky_ca`, from `anchor_run_rows`, which rests on a search of its own, `ask_run_rows` and `ca_run_rows`.
 """
 
 import sys

@@ -14,7 +14,7 @@ pub record IsAuthority (number : ℕ) (step : IssuingStep) : Type 0 where
   pub authority : IsTrue step.ca
   pub depth : (limit : ℕ) → step.pathlen ≡ Some limit → number ≤ limit
 
--- each of these is the place of such a CA, numbered from 0 by those before it
+-- each of these is the index of such a CA, numbered from 0 by those before it
 abbrev pub AreAuthorities : History → List ℕ → Type 0
 AreAuthorities history places =
     (number place : ℕ) (step : IssuingStep) → slice_get places number ≡ Some place

@@ -4,7 +4,7 @@ use Rattle.std.specs.List.{slice_get}
 use Rattle.x509_core.specs.History.{IssuingStep, History}
 use Rattle.ca_register.specs.declared.entry.Entry.{Entry}
 
--- the entry at a place, counted from 0
+-- the entry at an index, counted from 0
 abbrev pub HasEntry : List Entry → ℕ → Entry → Type 0
 HasEntry entries place entry = slice_get entries place ≡ Some entry
 

@@ -121,7 +121,7 @@ root_steps scheme word grant IsBuilder =
 
 module _ (scheme : KeyArithmetic) (word : ℕ) (certificates : List KeptCertificate) (issuer : ℕ)
     (IsBuilder : KeptCertificate → CertificateBuilder → Type 0) where
-  -- The certificate is what such a builder builds under the certificate at the issuer's place.
+  -- The certificate is what such a builder builds under the certificate at the issuer's index.
   pub record IsBuiltUnder (cert : KeptCertificate) : Type 0 where
     pub parent : KeptCertificate
     pub has : HasCert certificates issuer parent
@@ -165,7 +165,7 @@ module _ (scheme : KeyArithmetic) (word : ℕ) (certificates : List KeptCertific
 
 -- ---- what is added
 
--- The entry and such a certificate are added at the end, and the place is theirs.
+-- The entry and such a certificate are added at the end, and the index is theirs.
 pub record Adds (entry : Entry) (IsCert : KeptCertificate → Type 0)
     (entries entries_now : List Entry) (certificates certificates_now : List KeptCertificate)
     (place : ℕ) : Type 0 where

@@ -6,5 +6,17 @@ pub mod Authorities
 pub mod Granting
 pub mod Issuing
 pub mod Usable
+-- For the program.
+pub mod Words
+pub mod LineKeys
+pub mod LineCertificates
+pub mod LineEntries
+pub mod Counting
+pub mod Answer
+pub mod Run
+pub mod Reported
 -- Rules, which the promises rest on.
 pub mod Above
+-- Inside, which no public contract cites.
+pub mod Filling
+pub mod Inquiry

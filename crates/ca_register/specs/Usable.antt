@@ -8,7 +8,7 @@ use Rattle.x509_core.specs.Window.{IsEarlier}
 use Rattle.ca_register.specs.Entries.{HasEntry, history_of}
 use Rattle.ca_register.specs.declared.entry.Entry.{Entry}
 
--- the entry is at one of these places
+-- the entry is at one of these indices
 pub record IsAmong (entries : List Entry) (places : List ℕ) (entry : Entry) : Type 0 where
   pub index : ℕ
   pub place : ℕ
@@ -33,7 +33,8 @@ pub record IsEarliestTo (entries : List Entry) (places : List ℕ)
   pub none_earlier : (entry : Entry) → IsAmong entries places entry
       → IsEarlier entry.grant.to moment → ⊥
 
--- The latest first second and the earliest last second of the entry at a place and of its ancestors.
+-- The latest first second and the earliest last second of the entry at an index and of its
+-- ancestors.
 pub record IsUsable (entries : List Entry) (place : ℕ) (from to : GeneralizedTime) : Type 0 where
   pub ancestors : List ℕ
   pub are : AreAncestors (history_of entries) place ancestors

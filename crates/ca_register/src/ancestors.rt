@@ -13,7 +13,7 @@ use x509_core::Cert;
 pub(crate) struct Ancestors<'a> {
     pub(crate) entries: &'a [Entry],
     pub(crate) certificates: &'a [Cert],
-    /// The place of the next ancestor, none above a root.
+    /// The index of the next ancestor, none above a root.
     pub(crate) issuer: Option<usize>,
     /// How many there are at most.
     pub(crate) most: usize,
@@ -36,7 +36,7 @@ impl<'a> Iterator for Ancestors<'a> {
     }
 }
 
-/// The issuer of the entry at a place, if there is one.
+/// The issuer of the entry at an index, if there is one.
 fn issuer_at(entries: &[Entry], place: usize) -> Option<usize>
     ensures { result ≡ issuer_in (slice_get entries.now place) }
 {

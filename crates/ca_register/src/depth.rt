@@ -10,7 +10,7 @@ ghost use Rattle.ca_register.specs.declared.error.IssueError.TheVariants as erro
 use crate::entry::{Entry, entry_at};
 use crate::error::IssueError;
 
-/// Checks that a certificate may be issued under the one at this place: there is one, else
+/// Checks that a certificate may be issued under the one at this index: there is one, else
 /// `NoIssuer`; it is a CA's, else `NotCa`; the path length of no ancestor is too short, else
 /// `TooDeep`. It doesn't allocate.
 pub(crate) fn expect_issuer(entries: &[Entry], issuer: usize) -> Result<(), IssueError>

@@ -21,12 +21,12 @@ pub struct Grant {
 /// The record of a certificate.
 #[derive(Clone, Copy, Debug, PartialEq, Eq)]
 pub struct Entry {
-    /// The place of the issuer, none of a root.
+    /// The index of the issuer, none of a root.
     pub issuer: Option<usize>,
     pub grant: Grant,
 }
 
-/// The entry at a place.
+/// The entry at an index.
 pub(crate) fn entry_at(entries: &[Entry], place: usize) -> Entry
     requires within { place < length entries.now }
     ensures { HasEntry entries.now place result }

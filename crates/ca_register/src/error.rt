@@ -15,7 +15,7 @@ use x509_core::{CertError, CsrError};
 /// `Memory`.
 #[derive(Debug, Error)]
 pub enum IssueError {
-    /// The register has no certificate at this place, but so many.
+    /// The register has no certificate at this index, but so many.
     NoIssuer { issuer: usize, len: usize },
     /// The issuer isn't a CA, or a root is to be none.
     NotCa,

@@ -39,7 +39,7 @@ use x509_core::Cert;
 use x509_issuing::{CertificateBuilder, Csr};
 
 impl<S: Scheme + Drop> Register<S> {
-    /// Issues a root: a self-signed CA certificate. Returns its place. Refused, in this order, as
+    /// Issues a root: a self-signed CA certificate. Returns its index. Refused, in this order, as
     /// `NotCa` if it isn't granted as a CA, and as `Build` if `CertificateBuilder::build` refuses.
     /// A refusal changes nothing.
     pub fn root(
@@ -79,7 +79,7 @@ impl<S: Scheme + Drop> Register<S> {
         Ok(self.add(entry, cert)?)
     }
 
-    /// Issues a certificate for a name and a key, signed by the issuer's key. Returns its place.
+    /// Issues a certificate for a name and a key, signed by the issuer's key. Returns its index.
     /// Refused, in this order, as `NoIssuer`, `NotCa` or `TooDeep` by the entries alone, as `Build`
     /// if `CertificateBuilder::build` refuses, and as `WrongKey` if the signature isn't one by the
     /// key of the issuer's certificate. A refusal changes nothing.
@@ -133,7 +133,7 @@ impl<S: Scheme + Drop> Register<S> {
     }
 
     /// Issues a certificate for a request (RFC 2986), with the extensions that it asks for, signed
-    /// by the issuer's key. Returns its place. Refused, in this order, as `NoIssuer`, `NotCa` or
+    /// by the issuer's key. Returns its index. Refused, in this order, as `NoIssuer`, `NotCa` or
     /// `TooDeep` by the entries alone, as `Request` if the octets are no request, as `Build` if
     /// `CertificateBuilder::build` refuses, also a request that isn't signed by its own key, and as
     /// `WrongKey` if the signature isn't one by the key of the issuer's certificate. A refusal

@@ -3,14 +3,27 @@
 #![tactic(auto)]
 
 mod ancestors;
+mod counting;
 mod depth;
 mod entry;
 mod error;
+mod filling;
+mod inquiry;
 mod issuing;
+mod job;
+mod keys;
+mod program;
 mod register;
+mod report;
 mod usable;
 mod verifying;
+mod words;
 
 pub use entry::{Entry, Grant};
 pub use error::IssueError;
+pub use program::run;
+pub use program_frame::{
+    ACCEPTED, BAD_TABLE, DirShelf, Failed, MemShelf, MemSink, OUT_OF_MEMORY, OutSink, REFUSED,
+    SHELF_FAILED, SINK_FAILED, Shelf, Sink, TOO_LONG, USAGE, status_without_words,
+};
 pub use register::Register;

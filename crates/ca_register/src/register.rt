@@ -48,7 +48,7 @@ impl<S: Scheme + Drop> Register<S> {
         self.entries.len()
     }
 
-    /// The entry at a place, counted from 0. None exactly from `len` on. It doesn't allocate.
+    /// The entry at an index, counted from 0. None exactly from `len` on. It doesn't allocate.
     pub fn entry(&self, place: usize) -> Option<&Entry>
         ensures { MatchOption result (length self.now.entries.items ≤ place)
             (λ entry. HasEntry self.now.entries.items place entry.now) }
@@ -56,7 +56,8 @@ impl<S: Scheme + Drop> Register<S> {
         self.entries.get(place)
     }
 
-    /// The certificate at a place, counted from 0. None exactly from `len` on. It doesn't allocate.
+    /// The certificate at an index, counted from 0. None exactly from `len` on. It doesn't
+    /// allocate.
     pub fn certificate(&self, place: usize) -> Option<&Cert>
         ensures { MatchOption result (length self.now.certificates.items ≤ place)
             (λ cert. HasCert self.now.certificates.items place cert.now) }
@@ -64,7 +65,7 @@ impl<S: Scheme + Drop> Register<S> {
         self.certificates.get(place)
     }
 
-    /// Adds a certificate with its entry; returns its place. If memory runs out, nothing changes.
+    /// Adds a certificate with its entry; returns its index. If memory runs out, nothing changes.
     pub(crate) fn add(&mut self, entry: Entry, cert: Cert) -> Result<usize, AllocError>
         requires { ∥ IsRegister (S.judge self.old.scheme) (self.old.entries.items ++ entry ∷ [])
             (self.old.certificates.items ++ cert ∷ []) ∥₁ }

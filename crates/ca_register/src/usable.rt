@@ -13,7 +13,7 @@ use sig_core::Scheme;
 use std::cmp::Ordering;
 
 impl<S: Scheme + Drop> Register<S> {
-    /// From when to when the certificate at a place is usable: the latest first second and the
+    /// From when to when the certificate at an index is usable: the latest first second and the
     /// earliest last second of its validity and of those of its ancestors. None exactly from `len`
     /// on. It takes time in the number of ancestors, and doesn't allocate.
     pub fn usable(&self, place: usize) -> Option<(UtcDate, UtcDate)>
@@ -27,7 +27,7 @@ impl<S: Scheme + Drop> Register<S> {
     }
 }
 
-/// From when to when the certificate at a place is usable.
+/// From when to when the certificate at an index is usable.
 fn usable_from(entries: &[Entry], place: usize) -> (UtcDate, UtcDate)
     requires within { place < length entries.now }
     requires ordered { IsOrdered (history_of entries.now) }
@@ -71,7 +71,7 @@ fn earlier(first: UtcDate, second: UtcDate) -> UtcDate
 }
 
 /// Whether the first date is before the second.
-fn is_earlier(first: UtcDate, second: UtcDate) -> bool
+pub(crate) fn is_earlier(first: UtcDate, second: UtcDate) -> bool
     ensures { IsTrue result ↔ IsEarlier first second }
 {
     first.cmp(&second) == Ordering::Less

@@ -23,7 +23,7 @@ use std::alloc::Global;
 use x509_core::{Cert, CertError};
 
 impl<S: Scheme + Drop> Register<S> {
-    /// Validates the certificate at a place over those of all its ancestors, the nearest first, at
+    /// Validates the certificate at an index over those of all its ancestors, the nearest first, at
     /// a date, with all checks (`CertValidator::verify`). It is accepted exactly at the dates
     /// between those of `usable`, unless memory runs out.
     pub fn verify(&self, alloc: Global, place: usize, date: &UtcDate) -> Result<(), CertError>

@@ -23,7 +23,7 @@ pub enum Kind {
 #[derive(Clone, Copy)]
 pub struct Call {
     pub kind: Kind,
-    /// The place of the issuer; 0 of a root.
+    /// The index of the issuer; 0 of a root.
     pub issuer: usize,
     /// The number of the key that signs.
     pub signer: u32,
@@ -34,14 +34,14 @@ pub struct Call {
 pub fn calls_of(alloc: Global, words: &str) -> Result<Vec<Call>> {
     let mut calls = Vec::new(alloc);
     for word in words.split(' ') {
-        let parts: Vec<&str> = word.split(',').collect(alloc)?;
-        calls.push(call_of(parts.as_slice())?)?;
+        calls.push(call_of(alloc, word)?)?;
     }
     Ok(calls)
 }
 
-fn call_of(parts: &[&str]) -> Result<Call> {
-    let [kind, issuer, signer, flag, length, first, last] = parts else {
+pub fn call_of(alloc: Global, word: &str) -> Result<Call> {
+    let parts: Vec<&str> = word.split(',').collect(alloc)?;
+    let [kind, issuer, signer, flag, length, first, last] = parts.as_slice() else {
         bail!("a call has seven parts");
     };
     Ok(Call {

@@ -72,7 +72,8 @@ fn request_of(alloc: Global, kind: Kind, number: u32) -> Result<Vec<u8>> {
     Ok(octets)
 }
 
-fn name_of(alloc: Global, number: u32) -> Result<DirectoryName> {
+/// The name with this number.
+pub fn name_of(alloc: Global, number: u32) -> Result<DirectoryName> {
     let name = format!(in alloc; "N{number}")?;
     Ok(DirectoryName::new_common_name(alloc, name.as_str())?)
 }

@@ -62,6 +62,7 @@ fn status_of(
         "picky_pe" => Ok(pe_image::run(alloc, words, shelf, sink)),
         "picky_anchor" => Ok(trust_anchors::run(alloc, words, shelf, sink)),
         "picky_ask" => Ok(signature_questions::run(alloc, words, shelf, sink)),
+        "picky_ca" => Ok(ca_register::run(alloc, words, shelf, sink)),
         _ => bail!("no program has this name"),
     }
 }

@@ -23,8 +23,8 @@ fn enrol_device<S: Scheme + Drop>(
         from,
         to,
     };
-    let place = register.enrol(ca, key, request, grant, word)?;
-    Ok(register.usable(place))
+    let index = register.enrol(ca, key, request, grant, word)?;
+    Ok(register.usable(index))
 }
 
 #[test]

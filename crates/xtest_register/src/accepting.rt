@@ -7,7 +7,7 @@ use sig_core::DemoScheme;
 use std::alloc::Global;
 use std::test::Fail;
 
-/// Whether the certificate at a place is accepted at a date. It must be exactly if the register
+/// Whether the certificate at an index is accepted at a date. It must be exactly if the register
 /// calls it usable then.
 fn accepts(
     alloc: Global,

@@ -1,0 +1,202 @@
+-- There is one answer for the lines of a register, and a report of it is the only one.
+use Rattle.std.proofs.Common.{◌≡◌, ◌≢◌, ◌⊎◌, ℕ, ◌+◌, ◌≤◌, List, [], ◌∷◌, length, Result, Ok, Err, IfOk, IfErr, MatchResult, inl, inr, refl, sym, ap, subst, ◌∙◌, arith}
+use Rattle.std.proofs.Math.Logic.{∥∥₁_map}
+use Rattle.std.specs.Prelude.{string_bytes}
+use Rattle.std.proofs.lemmas.List.{length-map}
+use Rattle.std.proofs.lemmas.List.Sums.{sum_by-cons}
+use Rattle.der_core.specs.Counts.{HasRisen}
+use Rattle.asn1_types.specs.declared.generalized_time.GeneralizedTime.{GeneralizedTime}
+use Rattle.program_frame.specs.declared.report.Report.{Report}
+use Rattle.program_frame.specs.declared.stop.Stop.{Stop}
+use Rattle.program_frame.specs.declared.stop.Stop.TheVariants as stop
+use Rattle.program_frame.specs.Inquiry.{GivesLine, GivesStop, StopsForText, line_of}
+use Rattle.program_frame.specs.Limits.{IsWholeFile}
+use Rattle.program_frame.specs.Question.{Line as ReportLine}
+use Rattle.program_frame.specs.ReadFiles.{AreRead, HandsOut, total_length}
+use Rattle.program_frame.specs.Shelf.{ShelfState}
+use Rattle.program_frame.specs.Sink.{Appends, IsCutShort, SinkState}
+use Rattle.register_text.specs.Lines.{HasBadLine, IsRegisterText, Line}
+use Rattle.sig_core.specs.DemoScheme.{demo_verdict}
+use Rattle.x509_core.specs.KeptCertificate.{KeptCertificate}
+use Rattle.ca_register.specs.Answer.{AreCounted, IsAnswerLine, IsAnswerTo, report_line, status_of, text_in}
+use Rattle.ca_register.specs.Authorities.{IsRegister}
+use Rattle.ca_register.specs.Counting.{IsAcceptedAt, IsCount, IsUsableAt}
+use Rattle.ca_register.specs.Filling.{IsFilled}
+use Rattle.ca_register.specs.Inquiry.{IsReportOf, IsReported, Reports}
+use Rattle.ca_register.specs.LineEntries.{IsFirstRefused, entries_of, entry_of}
+use Rattle.ca_register.specs.Reported.{AreIssued, IsCountFor, IsCountLine, IsReportedCount}
+use Rattle.ca_register.specs.Words.{AsksFor, Job}
+use Rattle.ca_register.specs.declared.entry.Entry.{Entry}
+use Rattle.ca_register.specs.declared.error.IssueError.{IssueError}
+use Rattle.ca_register.specs.declared.error.IssueError.TheVariants as errors
+use Rattle.ca_register.specs.declared.report.Answer.{Answer}
+use Rattle.ca_register.specs.declared.report.Answer.TheVariants.{Counted, NoIssuer, NotCa, TooDeep}
+use Rattle.ca_register.proofs.Counts.{count_once}
+use Rattle.ca_register.proofs.FirstRefusals.{IsRecorded, first_recorded, none_refused, one_refusal}
+
+-- ---- one answer
+
+no_issuer_not_ca : (issuer len : ℕ) → errors.NoIssuer issuer len ≡ errors.NotCa → ⊥
+no_issuer_not_ca issuer len e = absurd cc
+
+no_issuer_too_deep : (issuer len ancestor : ℕ) → errors.NoIssuer issuer len ≡ errors.TooDeep ancestor → ⊥
+no_issuer_too_deep issuer len ancestor e = absurd cc
+
+not_ca_too_deep : (ancestor : ℕ) → errors.NotCa ≡ errors.TooDeep ancestor → ⊥
+not_ca_too_deep ancestor e = absurd cc
+
+module _ (date : GeneralizedTime) (lines : List Line) where
+  refused_once : (a b : IssueError) (x y : IssueError) → IsFirstRefused lines a → IsFirstRefused lines b → a ≡ x → b ≡ y → x ≡ y
+  refused_once a b x y first second is same = sym is ∙ one_refusal lines a b first second ∙ same
+
+  pub one_answer : (a b : Answer) → IsAnswerTo date lines a → IsAnswerTo date lines b → a ≡ b
+  one_answer (Counted issued accepted) (Counted all some) x y =
+      let same_issued : issued ≡ all = x.all ∙ sym y.all in
+      let same_accepted : accepted ≡ some = count_once (IsUsableAt (entries_of lines) date) (length lines) accepted some x.usable y.usable in
+      λ i. Counted (same_issued i) (same_accepted i)
+  one_answer (Counted issued accepted) NoIssuer x y = absurd (none_refused lines y.0 x.issuable y.1)
+  one_answer (Counted issued accepted) NotCa x y = absurd (none_refused lines y.0 x.issuable y.1)
+  one_answer (Counted issued accepted) TooDeep x y = absurd (none_refused lines y.0 x.issuable y.1)
+  one_answer NoIssuer (Counted issued accepted) x y = absurd (none_refused lines x.0 y.issuable x.1)
+  one_answer NoIssuer NoIssuer x y = refl
+  one_answer NoIssuer NotCa x y = absurd (no_issuer_not_ca _ _ (refused_once x.0 y.0 _ _ x.1 y.1 x.2.2 y.2))
+  one_answer NoIssuer TooDeep x y = absurd (no_issuer_too_deep _ _ _ (refused_once x.0 y.0 _ _ x.1 y.1 x.2.2 y.2.1))
+  one_answer NotCa (Counted issued accepted) x y = absurd (none_refused lines x.0 y.issuable x.1)
+  one_answer NotCa NoIssuer x y = absurd (no_issuer_not_ca _ _ (refused_once y.0 x.0 _ _ y.1 x.1 y.2.2 x.2))
+  one_answer NotCa NotCa x y = refl
+  one_answer NotCa TooDeep x y = absurd (not_ca_too_deep _ (refused_once x.0 y.0 _ _ x.1 y.1 x.2 y.2.1))
+  one_answer TooDeep (Counted issued accepted) x y = absurd (none_refused lines x.0 y.issuable x.1)
+  one_answer TooDeep NoIssuer x y = absurd (no_issuer_too_deep _ _ _ (refused_once y.0 x.0 _ _ y.1 x.1 y.2.2 x.2.1))
+  one_answer TooDeep NotCa x y = absurd (not_ca_too_deep _ (refused_once y.0 x.0 _ _ y.1 x.1 y.2 x.2.1))
+  one_answer TooDeep TooDeep x y = refl
+
+  -- ---- reports
+
+  -- without a report memory ran out
+  pub memory_reports : (s : Stop) → s ≡ stop.Memory → Reports (IsAnswerTo date lines) (Err s)
+  memory_reports s is = record { reported = tt; stopped = is; only = λ other also. is }
+
+  pub answer_reports : (answer : Answer) (report : Report) → IsAnswerTo date lines answer → IsReportOf answer report → Reports (IsAnswerTo date lines) (Ok report)
+  answer_reports answer report is h = record {
+    reported = (answer, is, h);
+    stopped = tt;
+    only = λ other also. subst (λ (a : Answer). IsReportOf a report) (one_answer answer other is also) h;
+  }
+
+  -- an acceptance is a count
+  pub counts : (answer : Answer) (report : Report) → IsAnswerTo date lines answer → IsReportOf answer report
+      → ((issued accepted : ℕ) → answer ≡ Counted issued accepted → ∥ AreIssued date lines accepted ∥₁) → report.status ≡ 0 → IsCountLine date lines (string_bytes report.line)
+  counts (Counted issued accepted) report is h made zero = record {
+    accepted = accepted;
+    issued = made issued accepted refl;
+    is = h.line ∙ ap (λ (n : ℕ). report_line (Counted n accepted)) is.all;
+  }
+  counts NoIssuer report is h made zero = absurd (omega (arith, h.status, zero))
+  counts NotCa report is h made zero = absurd (omega (arith, h.status, zero))
+  counts TooDeep report is h made zero = absurd (omega (arith, h.status, zero))
+
+-- ---- what was issued
+
+counted_once : (a b c d : ℕ) → ◌≡◌ {A = Result Answer Stop} (Ok (Counted a b)) (Ok (Counted c d)) → b ≡ d
+counted_once a b c d e = cc
+
+-- the certificates of a filled register
+pub issued_count : (date : GeneralizedTime) (lines : List Line) (entries : List Entry) (certificates : List KeptCertificate) → IsFilled lines entries certificates → ∥ IsRegister demo_verdict entries certificates ∥₁
+    → (len number issued accepted : ℕ) → (IsRegister demo_verdict entries certificates → IsCount (IsAcceptedAt demo_verdict entries certificates date) (length entries) number)
+    → ◌≡◌ {A = Result Answer Stop} (Ok (Counted len number)) (Ok (Counted issued accepted)) → ∥ AreIssued date lines accepted ∥₁
+issued_count date lines entries certificates filled kept len number issued accepted count same = ∥∥₁_map kept (λ is.
+    let counted = subst (IsCount (IsAcceptedAt demo_verdict entries certificates date) (length entries)) (counted_once len number issued accepted same) (count is) in
+    let many : length entries ≡ length lines = ap (λ (es : List Entry). length es) filled.recorded ∙ length-map lines entry_of in
+    record {
+      certificates = certificates;
+      register = subst (λ (es : List Entry). IsRegister demo_verdict es certificates) filled.recorded is;
+      each = filled.each;
+      count = subst (λ (es : List Entry). IsCount (IsAcceptedAt demo_verdict es certificates date) (length lines) accepted) filled.recorded
+          (subst (λ (n : ℕ). IsCount (IsAcceptedAt demo_verdict entries certificates date) n accepted) many counted);
+    })
+
+-- ---- the text
+
+low_status : (answer : Answer) → status_of answer ≤ 1
+low_status (Counted issued accepted) = omega arith
+low_status NoIssuer = omega arith
+low_status NotCa = omega arith
+low_status TooDeep = omega arith
+
+-- a report of an answer has the line that reports it
+gives_line : (answer : Answer) (line : ReportLine) (result : Result Report Stop) → line.status ≡ status_of answer → line.text ≡ report_line answer
+    → IsReported answer result → GivesLine line result
+gives_line answer line (Ok report) status text h =
+    let same_status : report.status ≡ line.status = h.status ∙ sym status in
+    let same_text : string_bytes report.line ≡ line.text = h.line ∙ sym text in
+    λ i. record { status = same_status i; text = same_text i }
+gives_line answer line (Err s) status text h = h
+
+module _ (job : Job) (text : List ℕ) (lines : List Line) (is : IsRegisterText text lines) where
+  pub reports_answer : (result : Result Report Stop) → Reports (IsAnswerTo job.date lines) result → IfOk result (λ report. IsAnswerLine job (text ∷ []) (line_of report))
+  reports_answer (Ok report) h =
+      let of = h.reported in
+      record { lines = lines; is_text = is; answer = of.0; is_answer = of.1; status = of.2.status; text = of.2.line }
+  reports_answer (Err s) h = tt
+
+  pub reports_low : (result : Result Report Stop) → Reports (IsAnswerTo job.date lines) result → IfOk result (λ report. report.status ≤ 1)
+  reports_low (Ok report) h = let of = h.reported in omega (arith, of.2.status, low_status of.0)
+  reports_low (Err s) h = tt
+
+  pub reports_stopped : (result : Result Report Stop) → Reports (IsAnswerTo job.date lines) result → IfErr result (StopsForText (HasBadLine text))
+  reports_stopped (Ok report) h = tt
+  reports_stopped (Err s) h = subst (StopsForText (HasBadLine text)) (sym h.stopped) tt
+
+  pub reports_only : (result : Result Report Stop) → Reports (IsAnswerTo job.date lines) result → ((other : List Line) → IsRegisterText text other → lines ≡ other) → (line : ReportLine) → IsAnswerLine job (text ∷ []) line → GivesLine line result
+  reports_only result h once line answer =
+      gives_line answer.answer line result answer.status answer.text
+      (h.only answer.answer (subst (λ (ls : List Line). IsAnswerTo job.date ls answer.answer) (sym (once answer.lines answer.is_text)) answer.is_answer))
+
+-- ---- the file
+
+-- a text that isn't read
+pub unread_only : (job : Job) (text : List ℕ) (s : Stop) → ((lines : List Line) → IsRegisterText text lines → s ≡ stop.Memory) → (line : ReportLine) → IsAnswerLine job (text ∷ []) line → GivesLine line (Err s)
+unread_only job text s only line answer = only answer.lines answer.is_text
+
+bad_or_memory : (HasBad : Type 0) (s : Stop) → StopsForText HasBad s → (s ≡ stop.BadTable) ⊎ (s ≡ stop.Memory)
+bad_or_memory HasBad stop.BadTable h = inl refl
+bad_or_memory HasBad stop.Memory h = inr refl
+bad_or_memory HasBad stop.Usage h = absurd h
+bad_or_memory HasBad stop.Shelf h = absurd h
+bad_or_memory HasBad stop.TooLong h = absurd h
+
+pub gives_stop : (HasBad : Type 0) (s : Stop) → StopsForText HasBad s → GivesStop stop.BadTable (Err s)
+gives_stop HasBad s h = by (bad_or_memory HasBad s h)
+  where
+    by : (s ≡ stop.BadTable) ⊎ (s ≡ stop.Memory) → GivesStop stop.BadTable (Err s)
+    by (inl bad) = inl (ap Err bad)
+    by (inr memory) = inr (ap Err memory)
+
+module _ (shelf shelf_now : ShelfState) (words : List (List ℕ)) (job : Job) (asked : AsksFor words job) (text : List ℕ) (file : IsWholeFile shelf.files job.file text) (given : HandsOut (length text) shelf shelf_now) where
+  pub counts_for : (result : Result Report Stop)
+      → IfOk result (λ report. report.status ≡ 0 → (lines : List Line) × IsRegisterText text lines × IsCountLine job.date lines (string_bytes report.line))
+      → IfOk result (λ report. report.status ≡ 0 → IsCountFor words shelf shelf_now (string_bytes report.line))
+  counts_for (Ok report) h = λ zero.
+      let of = h zero in
+      record { job = job; asked = asked; text = text; file = file; handed_out = given; lines = of.0; is_text = of.1; counted = of.2 }
+  counts_for (Err s) h = tt
+
+-- the file alone
+pub read_alone : (shelf shelf_now : ShelfState) (name text : List ℕ) → IsWholeFile shelf.files name text → HandsOut (length text) shelf shelf_now → AreRead shelf shelf_now (name ∷ []) (text ∷ [])
+read_alone shelf shelf_now name text whole given = record {
+  are_files = (whole, tt);
+  given = subst (λ (n : ℕ). HandsOut n shelf shelf_now) (sym (sum_by-cons (λ (o : List ℕ). length o) text [] ∙ add-zero)) given;
+}
+  where
+    add-zero : length text + total_length [] ≡ length text
+    add-zero = omega arith
+
+-- ---- what is delivered
+
+module _ (words : List (List ℕ)) (shelf shelf_now : ShelfState) (report : Report)
+    (counted : report.status ≡ 0 → IsCountFor words shelf shelf_now (string_bytes report.line)) (out out_now : SinkState) where
+  pub delivered_count : (status : ℕ) → status ≡ 0 → ((status ≡ report.status) × Appends out.held (string_bytes report.line) out_now.held)
+      ⊎ ((status ≡ 5) × HasRisen out.faults out_now.faults × IsCutShort (string_bytes report.line) out out_now)
+      → IsReportedCount words shelf shelf_now out.held out_now.held
+  delivered_count status zero (inl h) = record { line = string_bytes report.line; count = counted (sym h.0 ∙ zero); written = h.1 }
+  delivered_count status zero (inr h) = absurd (omega (arith, zero, h.0))

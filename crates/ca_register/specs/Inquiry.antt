@@ -1,0 +1,37 @@
+-- A job as the program stores it, and the report of an answer, before anything is written.
+use Rattle.std.specs.Prelude.{◌≡◌, ◌≢◌, ℕ, List, Result, Ok, IfErr, IfOk, MatchResult, string_bytes}
+use Rattle.program_frame.specs.declared.report.Report.{Report}
+use Rattle.program_frame.specs.declared.stop.Stop.{Stop}
+use Rattle.program_frame.specs.declared.stop.Stop.TheVariants.{Memory}
+use Rattle.program_frame.specs.Inquiry.{IsInquiry}
+use Rattle.program_frame.specs.Shelf.{ShelfState}
+use Rattle.ca_register.specs.Answer.{question_of, report_line, status_of}
+use Rattle.ca_register.specs.Words.{AsksFor, Job}
+use Rattle.ca_register.specs.declared.job.Job.{Job as HeldJob}
+use Rattle.ca_register.specs.declared.report.Answer.{Answer}
+
+-- the job
+abbrev pub job_held : HeldJob → Job
+job_held held = record { file = held.file.now; date = held.date }
+
+-- The report is the line of the answer, with its status.
+pub record IsReportOf (answer : Answer) (report : Report) : Type 0 where
+  pub status : report.status ≡ status_of answer
+  pub line : string_bytes report.line ≡ report_line answer
+
+-- The result is a report of the answer, unless memory ran out.
+abbrev pub IsReported : Answer → Result Report Stop → Type 0
+IsReported answer result = MatchResult result (IsReportOf answer) (λ stop. stop ≡ Memory)
+
+-- What is reported is an answer that satisfies this, and each such answer is reported, unless
+-- memory ran out.
+pub record Reports (IsAnswer : Answer → Type 0) (result : Result Report Stop) : Type 0 where
+  pub reported : IfOk result
+      (λ report. (answer : Answer) × IsAnswer answer × IsReportOf answer report)
+  pub stopped : IfErr result (λ stop. stop ≡ Memory)
+  pub only : (answer : Answer) → IsAnswer answer → IsReported answer result
+
+-- The result for words that request a job.
+abbrev pub Inquires : List (List ℕ) → ShelfState → ShelfState → Result Report Stop → Type 0
+Inquires words before after result = (job : Job) → AsksFor words job
+    → IsInquiry before after (question_of job) result

@@ -1,0 +1,11 @@
+//! What the words of the command line request.
+
+use names_core::UtcDate;
+
+/// How many certificates of a register are accepted at a date.
+#[derive(Clone, Copy, Debug)]
+pub(crate) struct Job<'a> {
+    /// The text of the register.
+    pub(crate) file: &'a str,
+    pub(crate) date: UtcDate,
+}
