@@ -18,7 +18,7 @@ what the proved programs answer, and the verdict in one sentence.
   --programs FOLDER     where picky, picky_pe, picky_ask and picky_anchor are; else in crates/NAME/out,
                         else on the PATH
   --try                 run them from their sources by `rt try`, where they aren't built: it
-                        takes a minute or two, and nothing is proved
+                        takes some minutes, and nothing is proved
 
 Two proved programs decide: `picky_pe` whether the signature is one over this file by this
 signer, `picky_anchor` whether a path leads from its certificate to a root.  openssl (3.0 or

@@ -8,7 +8,7 @@ Usage:
 PROGRAM is the path of the executable `picky_ask`.  Three tables are printed, of medians:
 
   - on the signature of some 12 KB of `check.py`: the program, and the reader in Python
-    that lists signatures for the tests (`asked_signatures.py`), by the clock, without openssl;
+    that lists signatures for the tests (`asked_signatures.py`), without openssl, in processor time;
   - on files of 1 to 16 MiB whose first certificates are the signer's and its authority's, a
     root, over and over, each a question about a signature: processor time and memory;
   - on files of 1 to 16 MiB with one question, the signer's, over long attributes.
@@ -44,7 +44,8 @@ def measured(words):
     clock, processor, resident, status = figures.split()
     if int(status) != 0:
         sys.exit(f"{' '.join(map(str, words))}: status {int(status)}")
-    return float(clock), float(processor), int(resident), output.count(b"\n") + (output != b"")
+    # Behind the lines `measure.py` prints an empty one.
+    return float(clock), float(processor), int(resident), output.count(b"\n")
 
 
 def of_links(size):
@@ -67,7 +68,7 @@ def report_signed(program, folder, repetitions):
     }
     print("| octets | questions | picky_ask ms | a reader in Python ms |\n|---:|---:|---:|---:|")
     runs = {name: [measured(words) for _ in range(repetitions)] for name, words in commands.items()}
-    times = [1000 * median(run[0] for run in found) for found in runs.values()]
+    times = [1000 * median(run[1] for run in found) for found in runs.values()]
     print(f"| {case.signature.stat().st_size} | {runs['picky_ask'][0][3]} | {times[0]:.1f} | {times[1]:.1f} |\n")
 
 
