@@ -11,8 +11,6 @@ mod histories;
 #[cfg(test)]
 mod issuing;
 #[cfg(test)]
-mod judging;
-#[cfg(test)]
 mod keys;
 #[cfg(test)]
 mod names;
