@@ -16,6 +16,7 @@ ROOT = "root 11 R - 2020-01-01 2030-01-01\n"
 INT = "child 0 12 I y 0 2021-01-01 2029-01-01\n"
 LEAF = "child 1 13 L n - 2020-01-01 2025-01-01\n"
 CHAIN = ROOT + INT + LEAF
+LINE_OF_CAS = "".join(f"child {issuer} {issuer:02X} C{issuer} y - 2021-01-01 2029-01-01\n" for issuer in range(199))
 SUMMER = "2024-06-01"
 COUNTED, NOT_CA, TOO_DEEP, NO_ISSUER = "ca issued={} accepted={}", (1, "refused NotCa"), (1, "refused TooDeep"), (1, "refused NoIssuer")
 DAYS = "2019-12-31", "2020-01-01", "2022-03-01", "2024-02-29", "2024-06-01", "2024-06-02", "2030-01-01", "2049-12-31", "2050-01-01"
@@ -34,6 +35,9 @@ KNOWN = (
     ("", SUMMER, (0, COUNTED.format(0, 0)), "no line"),
     (ROOT * 200, SUMMER, (0, COUNTED.format(200, 200)), "200 lines"),
     (ROOT * 201, SUMMER, BAD, "201 lines"),
+    (ROOT + LINE_OF_CAS, SUMMER, (0, COUNTED.format(200, 200)), "199 ancestors, and an issuer of three digits"),
+    (ROOT.replace("R", "R" * 64) + INT.replace("I", "9" * 64), SUMMER, (0, COUNTED.format(2, 2)), "names of 64 characters"),
+    (ROOT.replace("R", "R" * 65), SUMMER, BAD, "a name of 65"),
     ("root 11 R\n", SUMMER, BAD, "a line that ends early"),
     (CHAIN[:-1], SUMMER, BAD, "no newline at the end"),
     (CHAIN + "child 2 14 X n - 2022-01-01 2023-01-01\nroot\n", SUMMER, BAD, "a bad line is reported before a refusal"),

@@ -18,7 +18,7 @@ FLAGS = (True,) * 14 + (False,)
 
 
 class Call(NamedTuple):
-    """What is issued: the place of the issuer, the number of the key that signs, and the grant."""
+    """What is issued: the index of the issuer, the number of the key that signs, and the grant."""
 
     kind: str
     issuer: int
@@ -30,7 +30,7 @@ class Call(NamedTuple):
 
 
 def issuer_of(chance, count):
-    """Mostly the last place; seldom one that isn't there."""
+    """Mostly the last index; seldom one that isn't there."""
     drawn = chance.random()
     if drawn < 0.03 or count == 0:
         return count + chance.randrange(3)

@@ -22,7 +22,7 @@ class Record(NamedTuple):
 
 
 def with_ancestors(records, place):
-    """The record at a place, that of its issuer, and so on up to a root."""
+    """The record at an index, that of its issuer, and so on up to a root."""
     found = []
     while place is not None:
         found.append(records[place])
@@ -63,5 +63,5 @@ def answers(calls):
 
 
 def is_accepted(records, place, date):
-    """Whether the certificate at a place is accepted at a date, of 14 digits."""
+    """Whether the certificate at an index is accepted at a date, of 14 digits."""
     return all(record.first <= date <= record.last for record in with_ancestors(records, place))
