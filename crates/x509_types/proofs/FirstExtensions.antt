@@ -1,6 +1,5 @@
 -- The first extension with an OID: found here, found later, and found once.
-use Rattle.std.proofs.Common.{◌≡◌, ◌↔◌, IsTrue, Bool, ℕ, List, [], ◌∷◌, ◌++◌, Option, Some, None, MatchOption, refl, sym, ap, subst, ◌∙◌}
-use Rattle.std.specs.Option.{is_some}
+use Rattle.std.proofs.Common.{◌≡◌, ℕ, List, [], ◌∷◌, ◌++◌, Option, Some, None, MatchOption, refl, sym, ap, subst, ◌∙◌}
 use Rattle.der_core.specs.Optional.{members_of}
 use Rattle.der_core.specs.DerElement.{DerElement, Primitive, Constructed, kids_of}
 use Rattle.der_core.specs.Kept.{IsKept}
@@ -97,32 +96,8 @@ value_once f oid a b p q =
 
 -- ---- values
 
--- the element in the first extension is that of the certificate
-pub held_first : {R : Type 0} (now : R → DerElement) (f : CertificateElements) (oid : List ℕ)
-    (kids : List DerElement) (octets : List ℕ) (r : Option R) → extensions_of f ≡ kids
-    → IsFirstNamed oid kids octets
-    → MatchOption r ((element : DerElement) → IsKept octets element → ⊥)
-    (λ e. IsKept octets (now e)) → MatchOption r
-    ((element : DerElement) → IsFirstValue f oid element → ⊥) (λ e. IsFirstValue f oid (now e))
-held_first now f oid kids octets None are first none = λ element v.
-    let there : IsFirstNamed oid (extensions_of f) octets = subst (λ (ks : List DerElement). IsFirstNamed oid ks octets) (sym are) first in
-    none element (subst (λ (o : List ℕ). IsKept o element) (first_once oid (extensions_of f) v.octets octets v.first there) v.holds)
-held_first now f oid kids octets (Some e) are first holds =
-    record { octets = octets; first = subst (λ (ks : List DerElement). IsFirstNamed oid ks octets) (sym are) first; holds = holds }
-
 -- what the element says, the first extension says
 pub said : {X R : Type 0} (now : R → X) (oid : List ℕ) (part : DerElement → X → Type 0) (f : CertificateElements) (element : DerElement) (r : Option R) → IsFirstValue f oid element
     → MatchOption r ((x : X) → part element x → ⊥) (λ x. part element (now x)) → MatchOption r ((x : X) → Says oid part f x → ⊥) (λ x. Says oid part f (now x))
 said now oid part f element None first none = λ x says. none x (subst (λ (e : DerElement). part e x) (value_once f oid says.0 element says.1 first) says.2)
 said now oid part f element (Some x) first says = (element, first, says)
-
--- whether there is a first one
-pub some_first : {R : Type 0} (now : R → List ℕ) (oid : List ℕ) (elements kids : List DerElement) (r : Option R) (t : Bool) → elements ≡ kids
-    → MatchOption r ((octets : List ℕ) → IsFirstNamed oid kids octets → ⊥)
-    (λ octets. IsFirstNamed oid kids (now octets)) → t ≡ is_some r
-    → IsTrue t ↔ ((octets : List ℕ) × IsFirstNamed oid elements octets)
-some_first now oid elements kids None t are none test = (
-  λ w. absurd cc,
-  λ stands. absurd (none stands.0 (subst (λ (ks : List DerElement). IsFirstNamed oid ks stands.0) are stands.1)),
-)
-some_first now oid elements kids (Some r) t are first test = (λ w. (now r, subst (λ (ks : List DerElement). IsFirstNamed oid ks (now r)) (sym are) first), λ stands. test)

@@ -9,6 +9,8 @@ pub mod Viewed
 pub mod Valued
 pub mod Moments
 pub mod FirstExtensions
+pub mod DecidedExtensions
+pub mod FoundSoFar
 pub mod FirstKids
 pub mod Somewhere
 pub mod Held

@@ -1,7 +1,7 @@
 -- Promises, which public contracts cite: all but those named below; first `Certificate`,
 -- `CertificateView`, `Extension`, `Attribute`.
 -- Rules, which the promises rest on: `ExtensionFields`, `LentTbs`, `FirstExtension`.
--- Inside, which no public contract cites: `TbsParts`, `Facts`.
+-- Inside, which no public contract cites: `TbsParts`, `FoundExtensions`, `Facts`.
 pub mod ExtensionKind
 pub mod ExtensionView
 pub mod ExtensionFields
@@ -24,6 +24,7 @@ pub mod AttributeSpellings
 pub mod CertificateFields
 pub mod InnerFields
 pub mod FirstExtension
+pub mod FoundExtensions
 pub mod FirstOfValue
 pub mod ExtensionParts
 pub mod Purposes

@@ -1,7 +1,10 @@
 //! Borrowed certificates.
 
+ghost use Rattle.std.specs.Prelude.{[]};
 ghost use Rattle.der_core.specs.Structure.{Fits};
 ghost use Rattle.x509_types.specs.CertificateElements.{AreCertificateFields};
+ghost use Rattle.x509_types.specs.FirstExtension.{extensions_of};
+ghost use Rattle.x509_types.specs.FoundExtensions.{AreFound};
 ghost use Rattle.x509_types.specs.LentCertificate.{lent_elements};
 
 mod extensions;
@@ -10,13 +13,17 @@ mod inner_fields;
 use crate::Time;
 use crate::certificate::parts::CertParts;
 use crate::certificate::view::inner_fields::{first_time, key_parts, second_time};
+use crate::extension::first::FirstExtensions;
 use der_core::Elem;
 
-/// A borrowed certificate (RFC 5280 4.1). It doesn't allocate.
+/// A borrowed certificate (RFC 5280 4.1), with the first extensions that it reports on. It doesn't
+/// allocate.
 #[derive(Clone, Copy)]
 pub struct CertView<'a> {
     parts: CertParts<'a>,
+    firsts: FirstExtensions<'a>,
     ghost fits: { ∥ Fits AreCertificateFields (lent_elements parts) ∥₁ },
+    ghost first: { ∥ AreFound (extensions_of (lent_elements parts)) [] firsts ∥₁ },
 }
 
 impl<'a> CertView<'a> {
@@ -39,7 +46,8 @@ impl<'a> CertView<'a> {
     {
         let parts = CertParts::of(elem)?;
         parts.expect_shapes()?;
-        Some(CertView { parts })
+        let firsts = FirstExtensions::of(parts.fields.extensions);
+        Some(CertView { parts, firsts })
     }
 
     /// The certificate in an element that is known to encode one. Only heads are read, and no shape
@@ -49,7 +57,10 @@ impl<'a> CertView<'a> {
         ensures { IsKnownView elem.entry.is.0 result }
     {
         match CertParts::of(elem) {
-            Some(parts) => CertView { parts },
+            Some(parts) => {
+                let firsts = FirstExtensions::of(parts.fields.extensions);
+                CertView { parts, firsts }
+            }
             None => unreachable!(),
         }
     }

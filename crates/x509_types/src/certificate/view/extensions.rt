@@ -1,21 +1,16 @@
 //! What the extensions of a borrowed certificate say.
 
-ghost use Rattle.std.specs.Prelude.{◌≡◌, ◌↔◌, [], List, ℕ, Bool, IsTrue, MatchOption};
-ghost use Rattle.der_core.specs.DerElement.{DerElement};
+ghost use Rattle.std.specs.Prelude.{◌↔◌, List, ℕ, Bool, IsTrue, MatchOption};
 ghost use Rattle.x509_types.specs.CertificateView.{view_elements};
-ghost use Rattle.x509_types.specs.FirstExtension.{extensions_of, IsFirstValue};
 ghost use Rattle.x509_types.specs.ExtensionParts.{HasCa, HasPathLength, HasSubjectKey, HasAuthorityKey};
 ghost use Rattle.x509_types.specs.Purposes.{NamesPurpose, HasPurposes};
 
 use crate::certificate::view::CertView;
-use crate::extension::first::first_extension;
+use crate::extension::first::listed;
 use crate::extension::parts::{flag_at, key_identifier_at, length_at};
 use crate::extension::purposes::has_usage_for;
-use asn1_types::oids::{
-    CE_AUTHORITY_KEY_IDENTIFIER, CE_BASIC_CONSTRAINTS, CE_EXT_KEY_USAGE, CE_SUBJECT_KEY_IDENTIFIER,
-};
 use der_core::tag::OCTET_STRING;
-use der_core::{Elem, Kids, leaf_at, whole_element};
+use der_core::{leaf_at, whole_element};
 
 /// If several extensions have the same OID, the first counts; but `names` looks in every extended
 /// key usage.
@@ -27,7 +22,8 @@ impl<'a> CertView<'a> {
             ((b : Bool) → HasCa (view_elements self.now) b → ⊥)
             (λ b. HasCa (view_elements self.now) b) }
     {
-        let constraints = self.first_value(CE_BASIC_CONSTRAINTS)?;
+        let octets = self.firsts.constraints?;
+        let constraints = whole_element(octets)?;
         flag_at(constraints)
     }
 
@@ -38,7 +34,8 @@ impl<'a> CertView<'a> {
             ((number : ℕ) → HasPathLength (view_elements self.now) number → ⊥)
             (λ number. HasPathLength (view_elements self.now) number) }
     {
-        let constraints = self.first_value(CE_BASIC_CONSTRAINTS)?;
+        let octets = self.firsts.constraints?;
+        let constraints = whole_element(octets)?;
         length_at(constraints)
     }
 
@@ -48,7 +45,8 @@ impl<'a> CertView<'a> {
             ((key : List ℕ) → HasSubjectKey (view_elements self.now) key → ⊥)
             (λ key. HasSubjectKey (view_elements self.now) key.now) }
     {
-        let value = self.first_value(CE_SUBJECT_KEY_IDENTIFIER)?;
+        let octets = self.firsts.subject_key?;
+        let value = whole_element(octets)?;
         leaf_at(value, OCTET_STRING)
     }
 
@@ -59,7 +57,8 @@ impl<'a> CertView<'a> {
             ((key : List ℕ) → HasAuthorityKey (view_elements self.now) key → ⊥)
             (λ key. HasAuthorityKey (view_elements self.now) key.now) }
     {
-        let value = self.first_value(CE_AUTHORITY_KEY_IDENTIFIER)?;
+        let octets = self.firsts.authority_key?;
+        let value = whole_element(octets)?;
         key_identifier_at(value)
     }
 
@@ -68,7 +67,10 @@ impl<'a> CertView<'a> {
     pub fn names(&self, oid: &[u8]) -> bool
         ensures { IsTrue result ↔ NamesPurpose (view_elements self.now) oid.now }
     {
-        match self.extension_kids() {
+        if !self.has_purposes() {
+            return false;
+        }
+        match listed(self.extensions()) {
             Some(kids) => has_usage_for(kids, oid),
             None => false,
         }
@@ -78,32 +80,6 @@ impl<'a> CertView<'a> {
     pub fn has_purposes(&self) -> bool
         ensures { IsTrue result ↔ HasPurposes (view_elements self.now) }
     {
-        match self.extension_kids() {
-            Some(kids) => first_extension(kids, CE_EXT_KEY_USAGE).is_some(),
-            None => false,
-        }
-    }
-
-    /// The element in the first extension with this OID, given as contents octets.
-    #[inline(always)]
-    fn first_value(&self, oid: &[u8]) -> Option<Elem<'a>>
-        ensures { MatchOption result
-            ((element : DerElement) → IsFirstValue (view_elements self.now) oid.now element → ⊥)
-            (λ elem. IsFirstValue (view_elements self.now) oid.now elem.is.0) }
-    {
-        let kids = self.extension_kids()?;
-        let octets = first_extension(kids, oid)?;
-        whole_element(octets)
-    }
-
-    /// The elements in the list of extensions, if it is present.
-    #[inline(always)]
-    fn extension_kids(&self) -> Option<Kids<'a>>
-        ensures { MatchOption result
-            (extensions_of (view_elements self.now) ≡ [])
-            (λ kids. extensions_of (view_elements self.now) ≡ kids.are.0) }
-    {
-        let list = self.extensions()?;
-        Kids::within(list)
+        self.firsts.purposes.is_some()
     }
 }

@@ -11,7 +11,7 @@ returns-in_err-expect_shapes c =
     (λ cert spelled. c.in_err-expect_shapes.ensures cert (by_certificate _ _ cert c.in_ok-parts.ensures spelled))
 
 pub invariant_of-result : goal.invariant_of-result
-invariant_of-result c = record { fits = merely c.in_ok-expect_shapes.ensures }
+invariant_of-result c = record { fits = merely c.in_ok-expect_shapes.ensures; first = merely c.of-firsts.ensures }
 
 pub returns : goal.returns
 returns c = record { is = c.in_ok-parts.ensures; fits = c.in_ok-expect_shapes.ensures }

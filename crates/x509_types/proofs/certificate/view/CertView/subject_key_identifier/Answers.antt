@@ -1,9 +1,17 @@
 use Rattle.x509_types.specs.ExtensionParts.{IsSubjectKeyIdentifier}
 use Rattle.x509_types.proofs.FirstExtensions.{said}
+use Rattle.x509_types.proofs.FoundSoFar.{none_found, first_found, unheld, held}
 use Rattle.x509_types.proofs.certificate.view.CertView.subject_key_identifier.Goals as goal
 
+pub returns-in_err-octets : goal.returns-in_err-octets
+returns-in_err-octets c = rw c.from_residual.ensures (λ x says. none_found _ _ _ _ c.in_err-octets.was c.args.self.now.first (λ found. found.subject_key) says.1.octets says.1.first)
+
 pub returns-in_err-value : goal.returns-in_err-value
-returns-in_err-value c = rw c.from_residual.ensures (λ x says. c.in_err-value.ensures says.0 says.1)
+returns-in_err-value c =
+    let first = first_found _ _ _ _ _ c.in_ok-octets.was c.args.self.now.first (λ found. found.subject_key) in
+    rw c.from_residual-in_err-value.ensures (λ x says. unheld _ IsSubjectKeyIdentifier _ _ x first c.in_err-value.ensures says)
 
 pub returns : goal.returns
-returns c = said _ _ (IsSubjectKeyIdentifier) _ _ _ c.in_ok-value.ensures c.leaf_at.ensures
+returns c =
+    let first = first_found _ _ _ _ _ c.in_ok-octets.was c.args.self.now.first (λ found. found.subject_key) in
+    said _ _ IsSubjectKeyIdentifier _ _ _ (held _ _ _ _ first c.in_ok-value.ensures) c.leaf_at.ensures
