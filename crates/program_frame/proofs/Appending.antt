@@ -1,8 +1,8 @@
 -- Appending a text piece by piece.
-use Rattle.std.proofs.Common.{◌≡◌, ℕ, ◌+◌, ◌-◌, List, [], ◌++◌, length, take, drop, Option, Some, sym, ◌∙◌, ap, arith, subst, append_assoc, append-nil, length-drop}
-use Rattle.std.proofs.lemmas.List.{take_all}
+use Rattle.std.proofs.Common.{◌≡◌, ℕ, ◌+◌, ◌-◌, List, [], ◌++◌, length, take, drop, Option, Some, sym, ◌∙◌, ap, arith, subst, append_assoc, append-nil, length-drop, length-append, ◌≤◌}
+use Rattle.std.proofs.lemmas.List.{take_all, length-take-le}
 use Rattle.std.proofs.Math.Seq.{take-add}
-use Rattle.program_frame.specs.Sink.{Appends, Keeps, Lowers, IsFull}
+use Rattle.program_frame.specs.Sink.{SinkState, Appends, Keeps, Lowers, IsFull, HasCapacity, KeepsCapacity}
 
 pub appends_nothing : (at : Option (List ℕ)) → Appends at [] at
 appends_nothing at held is = is ∙ ap Some (sym (append-nil held))
@@ -47,3 +47,29 @@ used_up first next n piece lowered full room is =
     let before = lowered room is in
     let none = full (room - n) before.1 in
     omega (arith, before.0, none.0)
+
+-- ---- contents and room together
+
+pub capacity_written : (first next last : SinkState) (piece : List ℕ) (n : ℕ) → KeepsCapacity first next → n ≤ length piece
+    → Appends next.held (take n piece) last.held → Lowers next.room n last.room → KeepsCapacity first last
+capacity_written first next last piece n kept within appended lowered capacity has =
+    let before = kept capacity has in
+    let after = lowered before.room before.room_is in
+    record {
+      held = before.held ++ take n piece;
+      room = before.room - n;
+      held_is = appended before.held before.held_is;
+      room_is = after.1;
+      together = omega (arith, after.0, within, before.together, length-append before.held (take n piece), length-take-le n piece within);
+    }
+
+pub capacity_kept : (first next last : SinkState) → KeepsCapacity first next → Keeps next.held last.held → Keeps next.room last.room → KeepsCapacity first last
+capacity_kept first next last kept held room capacity has =
+    let before = kept capacity has in
+    record {
+      held = before.held;
+      room = before.room;
+      held_is = held before.held before.held_is;
+      room_is = room before.room before.room_is;
+      together = before.together;
+    }

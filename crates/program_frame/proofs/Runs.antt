@@ -1,5 +1,5 @@
 -- What a run does follows from the result for the files, and from what the sink accepted.
-use Rattle.std.proofs.Common.{◌≡◌, ◌≢◌, ◌⊎◌, ℕ, ◌≤◌, List, length, IsSome, Result, Ok, Err, inl, inr, refl, sym, ◌∙◌, ap, subst, arith}
+use Rattle.std.proofs.Common.{◌≡◌, ◌≢◌, ◌⊎◌, ℕ, ◌≤◌, List, length, IsSome, Result, Ok, Err, IfOk, inl, inr, refl, sym, ◌∙◌, ap, subst, arith}
 use Rattle.std.specs.Prelude.{string_bytes}
 use Rattle.der_core.specs.Counts.{HasRisen}
 use Rattle.program_frame.specs.declared.report.Report.{Report}
@@ -10,8 +10,10 @@ use Rattle.program_frame.specs.Limits.{HasFiles, HasLongFile}
 use Rattle.program_frame.specs.Question.{Line, IsAnswered}
 use Rattle.program_frame.specs.Run.{Program, AsksForNothing, IsRun, IsRunAnswer, LacksRoom}
 use Rattle.program_frame.specs.Shelf.{ShelfState}
-use Rattle.program_frame.specs.Sink.{SinkState, Appends, HasRoom, IsCutShort}
+use Rattle.program_frame.specs.Ending.{Delivers, Ends}
+use Rattle.program_frame.specs.Sink.{SinkState, Appends, HasRoom, IsCutShort, KeepsCapacity}
 use Rattle.program_frame.specs.Stops.{status_for}
+use Rattle.program_frame.proofs.Inquiries.{IsInquiry-memory}
 
 status_bounded : (s : Stop) → status_for s ≤ 7
 status_bounded stop.Usage = omega arith
@@ -98,7 +100,7 @@ module _ {Job : Type 0} (program : Program Job) (words : List (List ℕ)) (shelf
       | inr some ↦ (some.0, some.1, subst (IsStopped shelf shelf_now (program.question_of some.0)) is (asked some.0 some.1).stopped)
     ]
 
-    pub IsRun-stopped : (out : SinkState) → IsRun program words shelf shelf_now out out (status_for s)
+    IsRun-stopped : (out : SinkState) → IsRun program words shelf shelf_now out out (status_for s)
     IsRun-stopped out = record {
       bounded = status_bounded s;
       reported = λ e. absurd (omega (arith, status_least s));
@@ -112,6 +114,7 @@ module _ {Job : Type 0} (program : Program Job) (words : List (List ℕ)) (shelf
       too_long = λ e. stopped_job stop.TooLong (λ u. absurd cc) (is_too_long s e);
       too_long_always = λ job ahead behind name some are long. long_status ahead ((asked job some).too_long ahead behind name are long);
       nothing_written = λ two five. λ v e. e;
+      capacity = λ capacity has. has;
       answered = λ job line some q t a. inl (inr (memory_status line s ((asked job some).answered line t a q)));
     } where
       long_status : (ahead : List (List ℕ)) → GivesStop stop.TooLong (Err s)
@@ -161,7 +164,7 @@ module _ {Job : Type 0} (program : Program Job) (words : List (List ℕ)) (shelf
         → IsAnswered shelf.files (program.question_of job) line → line_of report ≡ line
     given job line some q t a = (asked job some).answered line t a q
 
-    module _ (out out_now : SinkState) where
+    module _ (out out_now : SinkState) (keeps : KeepsCapacity out out_now) where
       IsRun-written : (status : ℕ) → status ≡ report.status
           → Appends out.held (string_bytes report.line) out_now.held
           → IsRun program words shelf shelf_now out out_now status
@@ -178,6 +181,7 @@ module _ {Job : Type 0} (program : Program Job) (words : List (List ℕ)) (shelf
         too_long = λ e. absurd (omega (arith, low_status));
         too_long_always = λ job ahead behind name some are long. absurd (no_long ahead ((asked job some).too_long ahead behind name are long));
         nothing_written = λ two five. absurd (omega (arith, low_status));
+        capacity = keeps;
         answered = λ job line some q t a.
             let same = given job line some q t a in
             inl (inl (is ∙ ap (λ (l : Line). l.status) same, subst (λ (l : Line). Appends out.held l.text out_now.held) same all));
@@ -199,14 +203,46 @@ module _ {Job : Type 0} (program : Program Job) (words : List (List ℕ)) (shelf
         too_long = λ e. absurd (omega arith);
         too_long_always = λ job ahead behind name some are long. absurd (no_long ahead ((asked job some).too_long ahead behind name are long));
         nothing_written = λ two five. absurd (five is);
+        capacity = keeps;
         answered = λ job line some q t a.
             inr (is, rose, subst (λ (l : Line). LacksRoom out l) (given job line some q t a) (no_room (string_bytes report.line) out out_now cut));
       }
 
-      pub IsRun-delivered : (status : ℕ)
-          → ((status ≡ report.status) × Appends out.held (string_bytes report.line) out_now.held)
-          ⊎ ((status ≡ 5) × HasRisen out.faults out_now.faults
-          × IsCutShort (string_bytes report.line) out out_now)
+      IsRun-delivered : (status : ℕ) → Delivers report out out_now status
           → IsRun program words shelf shelf_now out out_now status
       IsRun-delivered status (inl h) = IsRun-written status h.0 h.1
       IsRun-delivered status (inr h) = IsRun-cut status h.0 h.1 h.2
+
+-- ---- a run of a job, which ends by its result
+
+module _ {Job : Type 0} (program : Program Job) (words : List (List ℕ)) (shelf shelf_now : ShelfState)
+    (job : Job) (some : program.AsksFor words job) (only : (other : Job) → program.AsksFor words other → job ≡ other) where
+  pub IsRun-ended : (result : Result Report Stop) → IsInquiry shelf shelf_now (program.question_of job) result
+      → IfOk result (λ report. report.status ≤ 1) → (out out_now : SinkState) → KeepsCapacity out out_now
+      → (status : ℕ) → Ends result out out_now status → IsRun program words shelf shelf_now out out_now status
+  IsRun-ended (Ok report) inquiry low out out_now keeps status ends =
+      IsRun-delivered program words shelf shelf_now (inr (job, some)) report (λ none. absurd (none job some))
+      (λ other asked. subst (λ (j : Job). IsInquiry shelf shelf_now (program.question_of j) (Ok report)) (only other asked) inquiry)
+      low out out_now keeps status ends
+  IsRun-ended (Err s) inquiry low out out_now keeps status ends =
+      subst (λ (n : ℕ). IsRun program words shelf shelf_now out out_now n) (sym ends.0)
+      (subst (λ (o : SinkState). IsRun program words shelf shelf_now out o (status_for s)) (sym ends.1)
+      (IsRun-stopped program words shelf shelf_now (inr (job, some)) s (λ none. absurd (none job some))
+      (λ other asked. subst (λ (j : Job). IsInquiry shelf shelf_now (program.question_of j) (Err s)) (only other asked) inquiry) out))
+
+-- ---- a run without a question
+
+module _ {Job : Type 0} (program : Program Job) (words : List (List ℕ)) (shelf : ShelfState) (out : SinkState) where
+  -- if the words are no command
+  pub IsRun-unasked : AsksForNothing program words → IsRun program words shelf shelf out out 2
+  IsRun-unasked none = IsRun-stopped program words shelf shelf (inl none) stop.Usage (λ _. refl) (λ job some. absurd (none job some)) out
+
+  -- if memory ran out for the words of a command
+  pub IsRun-memory : (job : Job) × program.AsksFor words job → IsRun program words shelf shelf out out 7
+  IsRun-memory some = IsRun-stopped program words shelf shelf (inr some) stop.Memory (λ none. absurd (none some.0 some.1))
+      (λ job asked. IsInquiry-memory shelf shelf (program.question_of job)) out
+
+-- what a run reports that the shelf failed
+pub reports_shelf : (result : Result Report Stop) (out out_now : SinkState) (status : ℕ) → Ends result out out_now status
+    → ◌≡◌ {A = Result Report Stop} result (Err stop.Shelf) → status ≡ 4
+reports_shelf result out out_now status ends is = (subst (λ (r : Result Report Stop). Ends r out out_now status) is ends).0

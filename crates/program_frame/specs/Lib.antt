@@ -16,6 +16,8 @@ pub mod SecondsWord
 pub mod ListOption
 pub mod Options
 pub mod Held
+pub mod KnownTable
 pub mod Question
 pub mod Inquiry
+pub mod Ending
 pub mod Run

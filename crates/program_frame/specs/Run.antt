@@ -5,7 +5,7 @@ use Rattle.program_frame.specs.Limits.{IsLongFile, IsMissingFile, HasFiles, HasL
 use Rattle.program_frame.specs.Question.{Line, Question, AnswersRead, FindsBadText, HasBadText, IsAnswered}
 use Rattle.program_frame.specs.ReadFiles.{FindsLongFile}
 use Rattle.program_frame.specs.Shelf.{ShelfState}
-use Rattle.program_frame.specs.Sink.{SinkState, Appends, Keeps, HasRoom, IsCutShort}
+use Rattle.program_frame.specs.Sink.{SinkState, Appends, Keeps, HasRoom, IsCutShort, KeepsCapacity}
 use Rattle.program_frame.specs.Statuses as statuses
 
 -- A program: which job the words of its command line request, and which question a job is.
@@ -93,6 +93,8 @@ pub record IsRun {Job : Type 0} (program : Program Job) (words : List (List ℕ)
   -- without a report nothing is written
   pub nothing_written : statuses.usage ≤ status → status ≢ statuses.sink_failed
       → Keeps out.held out_now.held
+  -- whatever the status, what the sink lost in room is what it gained in contents
+  pub capacity : KeepsCapacity out out_now
   -- If a quiet shelf exposes its files, the answer about them is reported by its line, unless
   -- memory runs out, or a sink fails that exposes no room for the line.
   pub answered : (job : Job) (line : Line) → program.AsksFor words job → shelf.is_quiet

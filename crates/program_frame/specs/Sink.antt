@@ -1,5 +1,5 @@
 -- The observable state of a sink, and what its calls do.
-use Rattle.std.specs.Prelude.{ℕ, List, ◌≡◌, ◌<◌, ◌≤◌, ◌-◌, ◌++◌, length, take, Option, Some}
+use Rattle.std.specs.Prelude.{ℕ, List, ◌≡◌, ◌<◌, ◌≤◌, ◌+◌, ◌-◌, ◌++◌, length, take, Option, Some}
 
 -- The observable state of a sink at one moment.
 pub record SinkState : Type 0 where
@@ -29,6 +29,19 @@ HasRoom room n = (left : ℕ) × (room ≡ Some left) × (n ≤ left)
 -- it refuses only a nonempty piece, if no room is left
 abbrev pub IsFull : Option ℕ → List ℕ → Type 0
 IsFull before piece = (room : ℕ) → before ≡ Some room → (room ≡ 0) × (0 < length piece)
+
+-- The contents and the room of a sink that exposes both have this length together.
+pub record HasCapacity (state : SinkState) (capacity : ℕ) : Type 0 where
+  pub held : List ℕ
+  pub room : ℕ
+  pub held_is : state.held ≡ Some held
+  pub room_is : state.room ≡ Some room
+  pub together : length held + room ≡ capacity
+
+-- what a sink that exposes both lost in room is what it gained in contents
+abbrev pub KeepsCapacity : (before after : SinkState) → Type 0
+KeepsCapacity before after = (capacity : ℕ) → HasCapacity before capacity
+    → HasCapacity after capacity
 
 -- A proper prefix of a text was appended, as long as the room if the sink exposed that.
 pub record IsCutShort (text : List ℕ) (before after : SinkState) : Type 0 where

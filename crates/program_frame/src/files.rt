@@ -5,7 +5,7 @@ ghost use Rattle.der_core.specs.Counts.{GoesOn, HasRisen, FailsOnce};
 ghost use Rattle.program_frame.specs.Held.{contents_held, names_held};
 ghost use Rattle.program_frame.specs.Limits.{longest_file, IsWholeFile, IsLongFile, IsMissingFile};
 ghost use Rattle.program_frame.specs.Shelf.{file_of};
-ghost use Rattle.program_frame.specs.Sink.{Appends, Lowers, HasRoom, IsCutShort};
+ghost use Rattle.program_frame.specs.Sink.{Appends, Lowers, HasRoom, IsCutShort, KeepsCapacity};
 ghost use Rattle.program_frame.specs.ReadFiles.{AreRead, AreUnread, HandsOut, HandsOutAtMost};
 
 use crate::{Failed, FileError, Shelf, Sink};
@@ -68,6 +68,7 @@ pub fn write_report<O: Sink>(out: &mut O, text: &str) -> Result<(), Failed>
     ensures lowered { OnOk result
         (Lowers (O.state out.old).room (length text.now) (O.state out.new).room) }
     ensures cut { OnErr result (IsCutShort text.now (O.state out.old) (O.state out.new)) }
+    ensures capacity { KeepsCapacity (O.state out.old) (O.state out.new) }
     ensures counted { (O.state out.old).faults ≤ (O.state out.new).faults }
     ensures cause { OnErr result (HasRisen (O.state out.old).faults (O.state out.new).faults) }
     // A failed call is the last one, and is reported.

@@ -3,7 +3,7 @@ use Rattle.std.proofs.lemmas.Result.{err_from_is_err_and}
 use Rattle.der_core.specs.Counts.{HasRisen}
 use Rattle.program_frame.specs.Sink.{Lowers}
 use Rattle.program_frame.proofs.Failing.{failed_as, failed_then, none_failed, stands}
-use Rattle.program_frame.proofs.Appending.{appends_nothing, appends_rest, appends_kept, lowers_nothing, lowers_more, used_up}
+use Rattle.program_frame.proofs.Appending.{appends_nothing, appends_rest, appends_kept, lowers_nothing, lowers_more, used_up, capacity_written, capacity_kept}
 use Rattle.program_frame.proofs.files.write_report.Goals as goal
 
 pub loop-done-init : goal.loop-done-init
@@ -11,6 +11,7 @@ loop-done-init g c = record {
   within = omega arith;
   held = appends_nothing _;
   room = lowers_nothing _;
+  capacity = λ capacity has. has;
   still = refl;
 }
 
@@ -19,6 +20,7 @@ loop-done-preserved g c = record {
   within = grind arith;
   held = appends_rest _ _ _ _ _ _ c.loop-done.invariant.held c.in_ok-done.ensures.appended;
   room = lowers_more _ _ _ _ _ c.loop-done.invariant.room c.in_ok-done.ensures.lowered;
+  capacity = capacity_written _ _ _ _ _ c.loop-done.invariant.capacity c.in_ok-done.ensures.bound c.in_ok-done.ensures.appended c.in_ok-done.ensures.lowered;
   still = stands c.in_ok-done.ensures.once (λ none. absurd cc) ∙ c.loop-done.invariant.still;
 }
 
@@ -57,6 +59,13 @@ pub returns-clause-lowered : goal.returns-clause-lowered
 returns-clause-lowered g c =
     let all : c.loop-done.done ≡ length c.args.text.now = omega (arith, c.loop-done-test.false, c.loop-done.invariant.within, ap length c.as_bytes-octets.ensures.value) in
     subst (λ n. Lowers (g.O.Sink.state c.args.out.now).room n (g.O.Sink.state c.loop-done.out).room) all c.loop-done.invariant.room
+
+pub returns-in_err-done-clause-capacity : goal.returns-in_err-done-clause-capacity
+returns-in_err-done-clause-capacity g c =
+    capacity_kept _ _ _ c.loop-done.invariant.capacity c.in_err-done.ensures.kept c.in_err-done.ensures.kept_room
+
+pub returns-clause-capacity : goal.returns-clause-capacity
+returns-clause-capacity g c = c.loop-done.invariant.capacity
 
 pub returns-clause-counted : goal.returns-clause-counted
 returns-clause-counted g c = omega (arith, c.loop-done.invariant.still)
