@@ -67,6 +67,3 @@ module _ (file table date_word : List ℕ) (option_words : List (List ℕ)) wher
         let same_date : date ≡ job.date = (let one = dates job.date (date_in job asked) in cc) in
         let same_options : options ≡ job.options = (let one = all job.options (options_in job asked) in cc) in
         λ i. Some (record { file = same_file i; table = same_table i; date = same_date i; options = same_options i })
-
-pub same_job : (a b : Job) → Some a ≡ Some b → a ≡ b
-same_job a b is = cc

@@ -1,68 +1,46 @@
-//! The report about the files that the words name, or why there is none.
+//! The report about the files that the words name.
 
-ghost use Rattle.std.specs.Prelude.{◌≡◌, ◌≤◌, ◌⊎◌, Err, length, map, string_bytes, IfOk};
-ghost use Rattle.der_core.specs.Counts.{FailsOnce};
+ghost use Rattle.std.specs.Prelude.{◌≡◌, map};
 ghost use Rattle.program_frame.specs.Held.{contents_held, options_held};
-ghost use Rattle.program_frame.specs.Inquiry.{IsInquiry};
-ghost use Rattle.program_frame.specs.ReadFiles.{HandsOutAtMost};
-ghost use Rattle.program_frame.specs.Statuses as statuses;
 ghost use Rattle.pe_image.specs.Commands.{IsAnswerTo, question_of, table_in};
 ghost use Rattle.pe_image.specs.Jobs.{job_held};
 ghost use Rattle.pe_image.specs.ListAnswer.{IsListAnswer, IsProgramAnswer};
 ghost use Rattle.pe_image.specs.ProgramPolicy.{program_policy};
 ghost use Rattle.pe_image.specs.Report.{Reports};
-ghost use Rattle.pe_image.specs.Words.{AsksFor, AsksForNothing, Job as AskedJob, files_of};
 
 use crate::check::check_pe;
 use crate::error::PeCheckError;
 use crate::policy::program_policy;
 use crate::report::report_of;
-use crate::words::{Job, job_of};
+use crate::words::Job;
 use authenticode_core::{AuthenticodeError, CertificateTrustList, CheckError, Policy};
 use names_core::UtcDate;
-use program_frame::{CheckOptions, Contents, Names, Report, Shelf, Stop, Task, answer};
-use sig_core::{Scheme, VerdictTable};
+use program_frame::{CheckOptions, Contents, KnownTable, Names, Report, Stop, Task, find_table};
+use sig_core::Scheme;
 use std::alloc::Global;
 
-/// The report that the words request.
-pub(crate) fn inquire<F: Shelf>(
-    alloc: Global,
-    words: &[String],
-    shelf: &mut F,
-) -> Result<Report, Stop>
-    ensures usage { AsksForNothing (map string_bytes words.now) → result ≡ Err Stop.Usage }
-    ensures unread { AsksForNothing (map string_bytes words.now) → shelf.new ≡ shelf.old }
-    ensures asked { (asked : AskedJob) → AsksFor (map string_bytes words.now) asked
-        → IsInquiry (F.state shelf.old) (F.state shelf.new) (question_of asked) result }
-    ensures low { IfOk result (λ report. report.status ≤ statuses.refused) }
-    ensures at_most { (asked : AskedJob) → AsksFor (map string_bytes words.now) asked
-        → HandsOutAtMost (length (files_of asked)) (F.state shelf.old) (F.state shelf.new) }
-    ensures once { FailsOnce (result ≡ Err Stop.Shelf)
-        (F.state shelf.old).faults (F.state shelf.new).faults }
-    ensures settled { AsksForNothing (map string_bytes words.now)
-        ⊎ ((asked : AskedJob) × AsksFor (map string_bytes words.now) asked) }
-{
-    match job_of(words) {
-        Some(job) => answer(alloc, shelf, &job),
-        None => Err(Stop::Usage),
-    }
+/// A job, and a verdict table that is known before the files are read.
+#[derive(Drop)]
+pub(crate) struct Inquiry<'a> {
+    pub(crate) job: Job<'a>,
+    pub(crate) known: Option<&'a KnownTable>,
 }
 
-impl Task for Job<'_> {
-    ghost question = { λ job. question_of (job_held job) };
+impl Task for Inquiry<'_> {
+    ghost question = { λ inquiry. question_of (job_held inquiry.job) };
 
     fn names(&self) -> Names<'_> {
         Names {
-            first: self.file,
-            second: self.table,
-            others: self.options.list_file(),
+            first: self.job.file,
+            second: self.job.table,
+            others: self.job.options.list_file(),
         }
     }
 
     // The verdict table among the files has the verdicts.
     fn report(&self, alloc: Global, read: &Contents) -> Result<Report, Stop> {
-        let table = VerdictTable::parse(alloc, table_in(read))?;
-        report_by(alloc, self, read, &table)
+        let table = find_table(alloc, self.known, table_in(read))?;
+        report_by(alloc, &self.job, read, table.as_table())
     }
 }
 

@@ -1,13 +1,9 @@
 -- The report of an answer, before anything is written.
-use Rattle.std.specs.Prelude.{◌≡◌, List, ℕ, Result, IfOk, IfErr, MatchResult, string_bytes}
+use Rattle.std.specs.Prelude.{◌≡◌, Result, IfOk, IfErr, MatchResult, string_bytes}
 use Rattle.program_frame.specs.declared.report.Report.{Report}
 use Rattle.program_frame.specs.declared.stop.Stop.{Stop}
 use Rattle.program_frame.specs.declared.stop.Stop.TheVariants.{Memory}
-use Rattle.program_frame.specs.Inquiry.{IsInquiry}
-use Rattle.program_frame.specs.Shelf.{ShelfState}
-use Rattle.picky_check.specs.Answer.{question_of}
 use Rattle.picky_check.specs.Report.{Answer, IsOutOfMemory, report_line, status_of}
-use Rattle.picky_check.specs.Words.{Job, AsksFor}
 
 -- The report is the line of the result, with its status. Out of memory has no report.
 pub record IsReportOf (answer : Answer) (report : Report) : Type 0 where
@@ -30,8 +26,3 @@ pub record Reports (IsAnswer : Answer → Type 0) (result : Result Report Stop) 
       (λ report. (answer : Answer) × IsAnswer answer × IsReportOf answer report)
   pub stopped : IfErr result (λ stop. stop ≡ Memory)
   pub only : (answer : Answer) → IsAnswer answer → GivesReport answer result
-
--- The result for words that request a job.
-abbrev pub Inquires : List (List ℕ) → ShelfState → ShelfState → Result Report Stop → Type 0
-Inquires words before after result = (job : Job) → AsksFor words job
-    → IsInquiry before after (question_of job) result

@@ -1,58 +1,53 @@
-//! The report about the files that the words name, or why there is none.
+//! The report about the files that the words name.
 
-ghost use Rattle.std.specs.Prelude.{◌≡◌, ◌≤◌, ◌⊎◌, ◌∷◌, Err, length, map, string_bytes, IfOk};
-ghost use Rattle.der_core.specs.Counts.{FailsOnce};
-ghost use Rattle.program_frame.specs.Held.{contents_held, options_held};
-ghost use Rattle.program_frame.specs.ReadFiles.{HandsOutAtMost};
-ghost use Rattle.program_frame.specs.Statuses as statuses;
+ghost use Rattle.std.specs.Prelude.{◌≡◌, ◌∷◌, map};
+ghost use Rattle.program_frame.specs.Held.{contents_held, names_held, options_held};
 ghost use Rattle.picky_check.specs.Answer.{IsAnswerTo, IsCertificateAnswer, question_of, table_in};
-ghost use Rattle.picky_check.specs.Inquiry.{Inquires, Reports};
+ghost use Rattle.picky_check.specs.Inquiry.{Reports};
 ghost use Rattle.picky_check.specs.Jobs.{job_held};
 ghost use Rattle.picky_check.specs.Policies.{check_policy};
 ghost use Rattle.picky_check.specs.SignatureAnswer.{IsListAnswer, IsSignatureAnswer};
-ghost use Rattle.picky_check.specs.Words.{AsksFor, AsksForNothing, Job as AskedJob, files_of};
+ghost use Rattle.picky_check.specs.Words.{files_of};
 
 use crate::chain::check_chain;
 use crate::policies::{basic_policy, check_policy};
 use crate::report::{chain_report_of, report_of};
-use crate::words::{Job, job_of};
+use crate::words::Job;
 use authenticode_core::{
     AuthenticodeError, CertificateTrustList, CheckError, Policy, check_wincert,
 };
 use names_core::UtcDate;
-use program_frame::{CheckOptions, Contents, Names, Report, Shelf, Stop, Task, answer};
-use sig_core::{Scheme, VerdictTable};
+use program_frame::{CheckOptions, Contents, KnownTable, Names, Report, Stop, Task, find_table};
+use sig_core::Scheme;
 use std::alloc::Global;
 use x509_core::{chains_break_no_rule, chains_have_one_answer};
 
-/// The report that the words request.
-pub(crate) fn inquire<F: Shelf>(
-    alloc: Global,
-    words: &[String],
-    shelf: &mut F,
-) -> Result<Report, Stop>
-    ensures usage { AsksForNothing (map string_bytes words.now) → result ≡ Err Stop.Usage }
-    ensures unread { AsksForNothing (map string_bytes words.now) → shelf.new ≡ shelf.old }
-    ensures asked { Inquires (map string_bytes words.now)
-        (F.state shelf.old) (F.state shelf.new) result }
-    ensures low { IfOk result (λ report. report.status ≤ statuses.refused) }
-    ensures at_most { (asked : AskedJob) → AsksFor (map string_bytes words.now) asked
-        → HandsOutAtMost (length (files_of asked)) (F.state shelf.old) (F.state shelf.new) }
-    ensures once { FailsOnce (result ≡ Err Stop.Shelf)
-        (F.state shelf.old).faults (F.state shelf.new).faults }
-    ensures settled { AsksForNothing (map string_bytes words.now)
-        ⊎ ((asked : AskedJob) × AsksFor (map string_bytes words.now) asked) }
-{
-    match job_of(alloc, words)? {
-        Some(job) => answer(alloc, shelf, &job),
-        None => Err(Stop::Usage),
+/// A job, and a verdict table that is known before the files are read.
+#[derive(Drop)]
+pub(crate) struct Inquiry<'a> {
+    pub(crate) job: Job<'a>,
+    pub(crate) known: Option<&'a KnownTable>,
+}
+
+impl Task for Inquiry<'_> {
+    ghost question = { λ inquiry. question_of (job_held inquiry.job) };
+
+    fn names(&self) -> Names<'_> {
+        self.job.names()
+    }
+
+    // The verdict table among the files has the verdicts.
+    fn report(&self, alloc: Global, read: &Contents) -> Result<Report, Stop> {
+        let table = find_table(alloc, self.known, self.job.table_in(read))?;
+        report_by(alloc, &self.job, read, table.as_table())
     }
 }
 
-impl Task for Job<'_> {
-    ghost question = { λ job. question_of (job_held job) };
-
-    fn names(&self) -> Names<'_> {
+impl Job<'_> {
+    /// The names of the files, in the order of reading.
+    fn names(&self) -> Names<'_>
+        ensures { names_held result ≡ files_of (job_held self.now) }
+    {
         match self {
             Job::Basic {
                 signature,
@@ -86,14 +81,6 @@ impl Task for Job<'_> {
         }
     }
 
-    // The verdict table among the files has the verdicts.
-    fn report(&self, alloc: Global, read: &Contents) -> Result<Report, Stop> {
-        let table = VerdictTable::parse(alloc, self.table_in(read))?;
-        report_by(alloc, self, read, &table)
-    }
-}
-
-impl Job<'_> {
     /// The text of the verdict table, among the contents of the files.
     fn table_in<'a>(&self, read: &'a Contents) -> &'a [u8]
         ensures { result.now ≡ table_in (job_held self.now) (contents_held read.now) }

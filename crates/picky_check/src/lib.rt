@@ -8,10 +8,10 @@ mod program;
 mod report;
 mod words;
 
-pub use program::run;
+pub use program::{run, run_with};
 pub use program_frame::{
-    ACCEPTED, BAD_TABLE, DirShelf, Failed, FileError, MemShelf, MemSink, OUT_OF_MEMORY, Opener,
-    OutSink, Paths, REFUSED, ReaderShelf, SHELF_FAILED, SINK_FAILED, Shelf, Sink, TOO_LONG, USAGE,
-    WriterSink, read_file, status_without_words, write_report,
+    ACCEPTED, BAD_TABLE, DirShelf, Failed, FileError, KnownTable, MemShelf, MemSink, OUT_OF_MEMORY,
+    Opener, OutSink, Paths, REFUSED, ReaderShelf, SHELF_FAILED, SINK_FAILED, Shelf, Sink, TOO_LONG,
+    USAGE, WriterSink, read_file, status_without_words, write_report,
 };
 pub use report::{accepted_line, parents_line, refused_chain_line, refused_line};

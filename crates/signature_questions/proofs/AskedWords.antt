@@ -7,9 +7,6 @@ use Rattle.signature_questions.specs.Jobs.{job_held}
 use Rattle.signature_questions.specs.Words.{AreInLimits, AsksFor, AsksForNothing, Job, OfChain, OfSignature, chain_word}
 use Rattle.signature_questions.specs.declared.words.Job.{Job as HeldJob}
 
-pub same_job : (a b : Job) → Some a ≡ Some b → a ≡ b
-same_job a b is = cc
-
 -- the test for the option
 pub option_is : (word : List ℕ) (test : Bool) → test ≡ bytes_eq word chain_word → test ≡ true → word ≡ chain_word
 option_is word test is holds = (bytes_eq-Decides word chain_word).0 (sym is ∙ holds)

@@ -1,6 +1,6 @@
-//! The report about the files that the words name, or why there is none.
+//! The report about the files that the words name.
 
-ghost use Rattle.std.specs.Prelude.{◌≡◌, ◌≤◌, ◌⊎◌, Err, IfOk, MatchResult, length, map, string_bytes};
+ghost use Rattle.std.specs.Prelude.{◌≡◌, ◌≤◌, Err, IfOk, MatchResult, length, map, string_bytes};
 ghost use Rattle.der_core.specs.Counts.{FailsOnce};
 ghost use Rattle.program_frame.specs.Inquiry.{IsInquiry, line_of};
 ghost use Rattle.program_frame.specs.ReadFiles.{HandsOutAtMost};
@@ -10,45 +10,21 @@ ghost use Rattle.signature_questions.specs.Commands.{IsAnswerLine, IsChainLine, 
 ghost use Rattle.signature_questions.specs.Jobs.{job_held};
 ghost use Rattle.signature_questions.specs.Lines.{refused_chain_line, refused_line};
 ghost use Rattle.signature_questions.specs.Reporting.{Reports};
-ghost use Rattle.signature_questions.specs.Words.{AsksFor, AsksForNothing, Job as AskedJob, files_of};
+ghost use Rattle.signature_questions.specs.Words.{files_of};
 
 use crate::chain_questions::ChainQuestions;
 use crate::lines::{chain_lines_of, lines_of};
 use crate::questions::questions_of;
 use crate::reading::read_certificates;
-use crate::words::{Job, job_of};
+use crate::words::Job;
 use authenticode_core::CheckError;
 use der_core::one_first_fault;
 use program_frame::{ACCEPTED, REFUSED, Report, Shelf, Stop, append_files};
 use std::alloc::{AllocError, Global};
 use x509_core::CertError;
 
-/// The report that the words request.
-pub(crate) fn inquire<F: Shelf>(
-    alloc: Global,
-    words: &[String],
-    shelf: &mut F,
-) -> Result<Report, Stop>
-    ensures usage { AsksForNothing (map string_bytes words.now) → result ≡ Err Stop.Usage }
-    ensures unread { AsksForNothing (map string_bytes words.now) → shelf.new ≡ shelf.old }
-    ensures asked { (asked : AskedJob) → AsksFor (map string_bytes words.now) asked
-        → IsInquiry (F.state shelf.old) (F.state shelf.new) (question_of asked) result }
-    ensures low { IfOk result (λ report. report.status ≤ statuses.refused) }
-    ensures at_most { (asked : AskedJob) → AsksFor (map string_bytes words.now) asked
-        → HandsOutAtMost (length (files_of asked)) (F.state shelf.old) (F.state shelf.new) }
-    ensures once { FailsOnce (result ≡ Err Stop.Shelf)
-        (F.state shelf.old).faults (F.state shelf.new).faults }
-    ensures settled { AsksForNothing (map string_bytes words.now)
-        ⊎ ((asked : AskedJob) × AsksFor (map string_bytes words.now) asked) }
-{
-    match job_of(words) {
-        Some(job) => answer(alloc, shelf, &job),
-        None => Err(Stop::Usage),
-    }
-}
-
 /// Reads the files of a job, and reports on their contents.
-fn answer<F: Shelf>(alloc: Global, shelf: &mut F, job: &Job<'_>) -> Result<Report, Stop>
+pub(crate) fn answer<F: Shelf>(alloc: Global, shelf: &mut F, job: &Job<'_>) -> Result<Report, Stop>
     requires { 1 ≤ length (files_of (job_held job.now)) }
     ensures found { IsInquiry (F.state shelf.old) (F.state shelf.new)
         (question_of (job_held job.now)) result }

@@ -7,8 +7,9 @@ ghost use Rattle.program_frame.specs.Statuses as statuses;
 ghost use Rattle.signature_questions.specs.Commands.{IsRun};
 ghost use Rattle.signature_questions.specs.Words.{AsksFor, AsksForNothing, Job, files_of};
 
-use crate::inquiry::inquire;
-use program_frame::{Shelf, Sink, deliver};
+use crate::inquiry::answer;
+use crate::words::job_of;
+use program_frame::{Shelf, Sink, USAGE, finish};
 use std::alloc::Global;
 
 /// Writes the questions about a signature file, or about files with certificates as a chain, a line
@@ -31,8 +32,8 @@ pub fn run<F: Shelf, O: Sink>(alloc: Global, words: &[String], shelf: &mut F, ou
     ensures ends { IsRun (map string_bytes words.now) (F.state shelf.old) (F.state shelf.new)
         (O.state out.old) (O.state out.new) result }
 {
-    match inquire(alloc, words, shelf) {
-        Ok(report) => deliver(out, &report),
-        Err(stop) => stop.status(),
+    match job_of(words) {
+        Some(job) => finish(out, answer(alloc, shelf, &job)),
+        None => USAGE,
     }
 }

@@ -1,4 +1,4 @@
-//! Reading the certificates of a chain.
+//! Reading certificates.
 
 ghost use Rattle.std.specs.Prelude.{◌≡◌, ◌++◌, List, IfErr, OnOk, map};
 ghost use Rattle.x509_core.specs.KeptCertificate.{KeptCertificate};

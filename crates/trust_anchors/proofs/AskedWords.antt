@@ -1,22 +1,10 @@
 -- The words of a command, by their texts.
-use Rattle.std.proofs.Common.{◌≡◌, ℕ, ◌+◌, ◌-◌, ◌≤◌, List, ◌∷◌, length, get_or, take, drop, map, Option, Some, None, option_map, sym, ap, subst, ◌∙◌, arith}
+use Rattle.std.proofs.Common.{◌≡◌, ℕ, ◌+◌, ◌-◌, ◌≤◌, List, ◌∷◌, length, get_or, take, drop, map, Some, sym, ap, subst, arith}
 use Rattle.std.proofs.lemmas.List.{take_all}
 use Rattle.asn1_types.specs.declared.generalized_time.GeneralizedTime.{GeneralizedTime}
 use Rattle.program_frame.specs.DateWord.{IsDateWord}
 use Rattle.trust_anchors.specs.Words.{AsksFor, AsksForNothing, IsNumberWord, Job, purpose_word}
 use Rattle.trust_anchors.specs.declared.anchor.Purpose.{Purpose}
-
--- one is asked for, so something is found
-pub one_asked : {A B : Type 0} (f : A → B) (o : Option A) (a : A) (b : B) → o ≡ Some a → option_map f o ≡ Some b → f a ≡ b
-one_asked f None a b is e = absurd cc
-one_asked f (Some x) a b is e =
-    let same : x ≡ a = (cc) in
-    let asked : f x ≡ b = (cc) in
-    ap f (sym same) ∙ asked
-
-pub none_asked : {A B : Type 0} (f : A → B) (o : Option A) (b : B) → o ≡ None → option_map f o ≡ Some b → ⊥
-none_asked f None b is e = absurd cc
-none_asked f (Some x) b is e = absurd cc
 
 -- the words after the first five, as in the code
 abbrev pub behind_five : {W : Type 0} → List W → List W

@@ -4,10 +4,7 @@ use Rattle.x509_core.specs.KeptCertificate.{KeptCertificate, kept_octets}
 use Rattle.program_frame.specs.declared.report.Report.{Report}
 use Rattle.program_frame.specs.declared.stop.Stop.{Stop}
 use Rattle.program_frame.specs.declared.stop.Stop.TheVariants.{Memory}
-use Rattle.program_frame.specs.Inquiry.{IsInquiry}
-use Rattle.program_frame.specs.Shelf.{ShelfState}
-use Rattle.trust_anchors.specs.Answer.{HasUnread, code_anchor, question_of, report_line, status_of}
-use Rattle.trust_anchors.specs.Words.{AsksFor, Job}
+use Rattle.trust_anchors.specs.Answer.{HasUnread, code_anchor, report_line, status_of}
 use Rattle.trust_anchors.specs.declared.anchor.Anchor.{Anchor}
 use Rattle.trust_anchors.specs.declared.reading.ReadError.{ReadError}
 use Rattle.trust_anchors.specs.declared.reading.ReadError.TheVariants as unread
@@ -49,8 +46,3 @@ pub record Reports (IsAnswer : Answer → Type 0) (result : Result Report Stop) 
       (λ report. (answer : Answer) × IsAnswer answer × IsReportOf answer report)
   pub stopped : IfErr result (λ stop. stop ≡ Memory)
   pub only : (answer : Answer) → IsAnswer answer → IsReported answer result
-
--- The result for words that request a job.
-abbrev pub Inquires : List (List ℕ) → ShelfState → ShelfState → Result Report Stop → Type 0
-Inquires words before after result = (job : Job) → AsksFor words job
-    → IsInquiry before after (question_of job) result

@@ -1,48 +1,20 @@
-//! The report about the files that the words name, or why there is none.
+//! The report about the files that the words name.
 
-ghost use Rattle.std.specs.Prelude.{◌≡◌, ◌≤◌, ◌⊎◌, Err, IfErr, IfOk, length, map, string_bytes};
-ghost use Rattle.der_core.specs.Counts.{FailsOnce};
+ghost use Rattle.std.specs.Prelude.{◌≡◌, ◌≤◌, IfErr, IfOk, length};
 ghost use Rattle.program_frame.specs.Held.{contents_held};
-ghost use Rattle.program_frame.specs.ReadFiles.{HandsOutAtMost};
-ghost use Rattle.program_frame.specs.Statuses as statuses;
 ghost use Rattle.trust_anchors.specs.Answer.{IsAnswerTo, IsSearchResult, certificates_in, question_of};
 ghost use Rattle.trust_anchors.specs.AnchoredPath.{IsAnchoredPath};
-ghost use Rattle.trust_anchors.specs.Inquiry.{Inquires, Reports};
+ghost use Rattle.trust_anchors.specs.Inquiry.{Reports};
 ghost use Rattle.trust_anchors.specs.Jobs.{job_held};
-ghost use Rattle.trust_anchors.specs.Words.{AsksFor, AsksForNothing, Job as AskedJob, files_of};
+ghost use Rattle.trust_anchors.specs.Words.{files_of};
 
 use crate::error::AnchorError;
 use crate::job::Job;
 use crate::reading::{Given, ReadError, read_given};
 use crate::report::{Answer, report_of};
-use crate::words::job_of;
-use program_frame::{Contents, Names, Report, Shelf, Stop, Task, answer};
+use program_frame::{Contents, Names, Report, Stop, Task};
 use sig_core::{Scheme, VerdictTable};
 use std::alloc::Global;
-
-/// The report that the words request.
-pub(crate) fn inquire<F: Shelf>(
-    alloc: Global,
-    words: &[String],
-    shelf: &mut F,
-) -> Result<Report, Stop>
-    ensures usage { AsksForNothing (map string_bytes words.now) → result ≡ Err Stop.Usage }
-    ensures unread { AsksForNothing (map string_bytes words.now) → shelf.new ≡ shelf.old }
-    ensures asked { Inquires (map string_bytes words.now)
-        (F.state shelf.old) (F.state shelf.new) result }
-    ensures low { IfOk result (λ report. report.status ≤ statuses.refused) }
-    ensures at_most { (asked : AskedJob) → AsksFor (map string_bytes words.now) asked
-        → HandsOutAtMost (length (files_of asked)) (F.state shelf.old) (F.state shelf.new) }
-    ensures once { FailsOnce (result ≡ Err Stop.Shelf)
-        (F.state shelf.old).faults (F.state shelf.new).faults }
-    ensures settled { AsksForNothing (map string_bytes words.now)
-        ⊎ ((asked : AskedJob) × AsksFor (map string_bytes words.now) asked) }
-{
-    match job_of(words) {
-        Some(job) => answer(alloc, shelf, &job),
-        None => Err(Stop::Usage),
-    }
-}
 
 impl Task for Job<'_> {
     ghost question = { λ job. question_of (job_held job) };

@@ -8,8 +8,8 @@ ghost use Rattle.trust_anchors.specs.Reported.{IsReportedPath};
 ghost use Rattle.trust_anchors.specs.Run.{IsRun};
 ghost use Rattle.trust_anchors.specs.Words.{AsksFor, AsksForNothing, Job, files_of};
 
-use crate::inquiry::inquire;
-use program_frame::{Shelf, Sink, deliver};
+use crate::words::job_of;
+use program_frame::{Shelf, Sink, USAGE, answer, finish};
 use std::alloc::Global;
 
 /// Runs the program `picky_anchor` on the words of its command line, with files of the shelf:
@@ -35,8 +35,8 @@ pub fn run<F: Shelf, O: Sink>(alloc: Global, words: &[String], shelf: &mut F, ou
     ensures ends { IsRun (map string_bytes words.now) (F.state shelf.old) (F.state shelf.new)
         (O.state out.old) (O.state out.new) result }
 {
-    match inquire(alloc, words, shelf) {
-        Ok(report) => deliver(out, &report),
-        Err(stop) => stop.status(),
+    match job_of(words) {
+        Some(job) => finish(out, answer(alloc, shelf, &job)),
+        None => USAGE,
     }
 }

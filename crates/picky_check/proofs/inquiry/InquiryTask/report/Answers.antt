@@ -1,20 +1,22 @@
-use Rattle.std.proofs.Common.{List, ℕ, ap, arith, sym, subst}
+use Rattle.std.proofs.Common.{List, ℕ, ◌∙◌, ap, arith, sym, subst}
 use Rattle.std.proofs.lemmas.Result.{IfOk-weaker, err_from_is_err_and}
 use Rattle.sig_core.specs.declared.verdict_row.VerdictRow.{VerdictRow}
 use Rattle.sig_core.specs.VerdictTable.{IsTable, IsFirstBadLine, verdict_of}
-use Rattle.pe_image.specs.Commands.{IsAnswerTo}
+use Rattle.picky_check.specs.Answer.{IsAnswerTo, table_in}
 use Rattle.program_frame.specs.Held.{contents_held}
-use Rattle.pe_image.specs.Jobs.{job_held}
+use Rattle.program_frame.specs.KnownTable.{found_rows}
+use Rattle.picky_check.specs.Jobs.{job_held}
 use Rattle.program_frame.specs.Stops.{stop_for_table}
-use Rattle.pe_image.proofs.Reported.{gives_line, low}
-use Rattle.pe_image.proofs.inquiry.JobTask.report.Goals as goal
+use Rattle.picky_check.proofs.Reported.{gives_line, low}
+use Rattle.picky_check.proofs.inquiry.InquiryTask.report.Goals as goal
 
 pub returns-clause-reported : goal.returns-clause-reported
 returns-clause-reported c =
     IfOk-weaker c.report_by.result _ _ (λ report h. record {
       answer = h.0;
-      rows = c.in_ok-table.table;
-      is_table = subst (λ (text : List ℕ). IsTable text c.in_ok-table.table) c.table_in.ensures c.in_ok-table.ensures.table;
+      rows = c.as_table.result.now;
+      is_table = subst (λ (rows : List VerdictRow). IsTable (table_in (job_held c.args.self.now.job) (contents_held c.args.read.now)) rows) (sym c.as_table.ensures)
+          (subst (λ (text : List ℕ). IsTable text (found_rows c.in_ok-table.table)) c.table_in.ensures c.in_ok-table.ensures.table);
       is_answer = h.1;
       reportable = h.2.reportable;
       status = h.2.status;
@@ -32,9 +34,9 @@ returns-in_err-table-clause-only c line is =
 
 pub returns-clause-only : goal.returns-clause-only
 returns-clause-only c line is =
-    let same = c.in_ok-table.ensures.each_table is.rows (subst (λ (text : List ℕ). IsTable text is.rows) (sym c.table_in.ensures) is.is_table) in
+    let same = c.as_table.ensures ∙ c.in_ok-table.ensures.each_table is.rows (subst (λ (text : List ℕ). IsTable text is.rows) (sym c.table_in.ensures) is.is_table) in
     gives_line is.answer line c.report_by.result is.status is.text (c.report_by.ensures.only is.answer
-    (subst (λ (rs : List VerdictRow). IsAnswerTo (verdict_of rs) (job_held c.args.self.now) (contents_held c.args.read.now) is.answer) (sym same) is.is_answer) is.reportable)
+    (subst (λ (rs : List VerdictRow). IsAnswerTo (verdict_of rs) (job_held c.args.self.now.job) (contents_held c.args.read.now) is.answer) (sym same) is.is_answer) is.reportable)
 
 pub returns-clause-bad : goal.returns-clause-bad
 returns-clause-bad c bad =
