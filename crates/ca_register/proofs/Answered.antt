@@ -9,6 +9,7 @@ use Rattle.asn1_types.specs.declared.generalized_time.GeneralizedTime.{Generaliz
 use Rattle.program_frame.specs.declared.report.Report.{Report}
 use Rattle.program_frame.specs.declared.stop.Stop.{Stop}
 use Rattle.program_frame.specs.declared.stop.Stop.TheVariants as stop
+use Rattle.program_frame.specs.Ending.{Ends}
 use Rattle.program_frame.specs.Inquiry.{GivesLine, GivesStop, StopsForText, line_of}
 use Rattle.program_frame.specs.Limits.{IsWholeFile}
 use Rattle.program_frame.specs.Question.{Line as ReportLine}
@@ -195,8 +196,19 @@ read_alone shelf shelf_now name text whole given = record {
 
 module _ (words : List (List ℕ)) (shelf shelf_now : ShelfState) (report : Report)
     (counted : report.status ≡ 0 → IsCountFor words shelf shelf_now (string_bytes report.line)) (out out_now : SinkState) where
-  pub delivered_count : (status : ℕ) → status ≡ 0 → ((status ≡ report.status) × Appends out.held (string_bytes report.line) out_now.held)
+  delivered_count : (status : ℕ) → status ≡ 0 → ((status ≡ report.status) × Appends out.held (string_bytes report.line) out_now.held)
       ⊎ ((status ≡ 5) × HasRisen out.faults out_now.faults × IsCutShort (string_bytes report.line) out out_now)
       → IsReportedCount words shelf shelf_now out.held out_now.held
   delivered_count status zero (inl h) = record { line = string_bytes report.line; count = counted (sym h.0 ∙ zero); written = h.1 }
   delivered_count status zero (inr h) = absurd (omega (arith, zero, h.0))
+
+-- the same of a run's end
+pub ended_count : (words : List (List ℕ)) (shelf shelf_now : ShelfState) (result : Result Report Stop)
+    → IfOk result (λ report. report.status ≡ 0 → IsCountFor words shelf shelf_now (string_bytes report.line)) → (out out_now : SinkState)
+    → (status : ℕ) → status ≡ 0 → Ends result out out_now status → IsReportedCount words shelf shelf_now out.held out_now.held
+ended_count words shelf shelf_now (Ok report) counted out out_now status zero ends = delivered_count words shelf shelf_now report counted out out_now status zero ends
+ended_count words shelf shelf_now (Err stop.Usage) counted out out_now status zero ends = absurd (omega (arith, zero, ends.0))
+ended_count words shelf shelf_now (Err stop.BadTable) counted out out_now status zero ends = absurd (omega (arith, zero, ends.0))
+ended_count words shelf shelf_now (Err stop.Shelf) counted out out_now status zero ends = absurd (omega (arith, zero, ends.0))
+ended_count words shelf shelf_now (Err stop.TooLong) counted out out_now status zero ends = absurd (omega (arith, zero, ends.0))
+ended_count words shelf shelf_now (Err stop.Memory) counted out out_now status zero ends = absurd (omega (arith, zero, ends.0))

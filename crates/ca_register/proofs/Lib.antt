@@ -27,4 +27,3 @@ mod Fillings
 mod Counts
 mod UsableCerts
 mod Answered
-mod AskedWords

@@ -3,10 +3,8 @@ use Rattle.std.specs.Prelude.{◌≡◌, ◌≢◌, ℕ, List, Result, Ok, IfErr
 use Rattle.program_frame.specs.declared.report.Report.{Report}
 use Rattle.program_frame.specs.declared.stop.Stop.{Stop}
 use Rattle.program_frame.specs.declared.stop.Stop.TheVariants.{Memory}
-use Rattle.program_frame.specs.Inquiry.{IsInquiry}
-use Rattle.program_frame.specs.Shelf.{ShelfState}
-use Rattle.ca_register.specs.Answer.{question_of, report_line, status_of}
-use Rattle.ca_register.specs.Words.{AsksFor, Job}
+use Rattle.ca_register.specs.Answer.{report_line, status_of}
+use Rattle.ca_register.specs.Words.{Job}
 use Rattle.ca_register.specs.declared.job.Job.{Job as HeldJob}
 use Rattle.ca_register.specs.declared.report.Answer.{Answer}
 
@@ -30,8 +28,3 @@ pub record Reports (IsAnswer : Answer → Type 0) (result : Result Report Stop) 
       (λ report. (answer : Answer) × IsAnswer answer × IsReportOf answer report)
   pub stopped : IfErr result (λ stop. stop ≡ Memory)
   pub only : (answer : Answer) → IsAnswer answer → IsReported answer result
-
--- The result for words that request a job.
-abbrev pub Inquires : List (List ℕ) → ShelfState → ShelfState → Result Report Stop → Type 0
-Inquires words before after result = (job : Job) → AsksFor words job
-    → IsInquiry before after (question_of job) result

@@ -1,6 +1,6 @@
-//! The report about the file that the words name, or why there is none.
+//! The report about the file that the words name.
 
-ghost use Rattle.std.specs.Prelude.{◌≡◌, ◌≢◌, ◌≤◌, ◌⊎◌, ◌∷◌, ℕ, [], Err, IfErr, IfOk, List, MatchResult, Ok, length, map, string_bytes};
+ghost use Rattle.std.specs.Prelude.{◌≡◌, ◌≢◌, ◌≤◌, ◌∷◌, ℕ, [], Err, IfErr, IfOk, List, MatchResult, Ok, length, map, string_bytes};
 ghost use Rattle.std.specs.List.{AllByRecursion};
 ghost use Rattle.asn1_types.specs.declared.generalized_time.GeneralizedTime.{GeneralizedTime};
 ghost use Rattle.der_core.specs.Counts.{FailsOnce};
@@ -12,10 +12,10 @@ ghost use Rattle.program_frame.specs.declared.stop.Stop.TheVariants as stops;
 ghost use Rattle.register_text.specs.Held.{line_held};
 ghost use Rattle.register_text.specs.Lines.{HasBadLine, IsLine, IsRegisterText, Line};
 ghost use Rattle.ca_register.specs.Answer.{IsAnswerLine, IsAnswerTo, question_of};
-ghost use Rattle.ca_register.specs.Inquiry.{Inquires, Reports, job_held};
+ghost use Rattle.ca_register.specs.Inquiry.{Reports, job_held};
 ghost use Rattle.ca_register.specs.LineEntries.{IsFirstRefused};
 ghost use Rattle.ca_register.specs.Reported.{AreIssued, IsCountFor, IsCountLine};
-ghost use Rattle.ca_register.specs.Words.{AsksFor, AsksForNothing, Job as AskedJob};
+ghost use Rattle.ca_register.specs.Words.{AsksFor};
 ghost use Rattle.ca_register.specs.declared.error.IssueError.TheVariants as errors;
 ghost use Rattle.ca_register.specs.declared.report.Answer.TheVariants as answers;
 
@@ -24,40 +24,13 @@ use crate::error::IssueError;
 use crate::filling::register_of;
 use crate::job::Job;
 use crate::report::{Answer, report_of};
-use crate::words::job_of;
 use names_core::UtcDate;
 use program_frame::{Report, Shelf, Stop, read_file};
 use register_text::{RegisterLine, lines_of};
 use std::alloc::Global;
 
-/// The report that the words request.
-pub(crate) fn inquire<F: Shelf>(
-    alloc: Global,
-    words: &[String],
-    shelf: &mut F,
-) -> Result<Report, Stop>
-    ensures usage { AsksForNothing (map string_bytes words.now) → result ≡ Err Stop.Usage }
-    ensures unread { AsksForNothing (map string_bytes words.now) → shelf.new ≡ shelf.old }
-    ensures asked { Inquires (map string_bytes words.now)
-        (F.state shelf.old) (F.state shelf.new) result }
-    ensures counted { IfOk result (λ report. report.status ≡ statuses.accepted
-        → IsCountFor (map string_bytes words.now) (F.state shelf.old) (F.state shelf.new)
-        (string_bytes report.line)) }
-    ensures low { IfOk result (λ report. report.status ≤ statuses.refused) }
-    ensures at_most { HandsOutAtMost 1 (F.state shelf.old) (F.state shelf.new) }
-    ensures once { FailsOnce (result ≡ Err Stop.Shelf)
-        (F.state shelf.old).faults (F.state shelf.new).faults }
-    ensures settled { AsksForNothing (map string_bytes words.now)
-        ⊎ ((asked : AskedJob) × AsksFor (map string_bytes words.now) asked) }
-{
-    match job_of(words) {
-        Some(job) => answer(alloc, shelf, &job),
-        None => Err(Stop::Usage),
-    }
-}
-
 /// Reads the file of a job, and reports on its contents.
-fn answer<F: Shelf>(alloc: Global, shelf: &mut F, job: &Job<'_>) -> Result<Report, Stop>
+pub(crate) fn answer<F: Shelf>(alloc: Global, shelf: &mut F, job: &Job<'_>) -> Result<Report, Stop>
     ensures found { IsInquiry (F.state shelf.old) (F.state shelf.new)
         (question_of (job_held job.now)) result }
     ensures counted { (words : List (List ℕ)) → AsksFor words (job_held job.now)

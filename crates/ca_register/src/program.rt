@@ -8,8 +8,9 @@ ghost use Rattle.ca_register.specs.Reported.{IsReportedCount};
 ghost use Rattle.ca_register.specs.Run.{IsRun};
 ghost use Rattle.ca_register.specs.Words.{AsksForNothing};
 
-use crate::inquiry::inquire;
-use program_frame::{Shelf, Sink, deliver};
+use crate::inquiry::answer;
+use crate::words::job_of;
+use program_frame::{Shelf, Sink, USAGE, finish};
 use std::alloc::Global;
 
 /// Runs the program `picky_ca` on the words of its command line, FILE and DATE, with the file of
@@ -35,8 +36,8 @@ pub fn run<F: Shelf, O: Sink>(alloc: Global, words: &[String], shelf: &mut F, ou
     ensures ends { IsRun (map string_bytes words.now) (F.state shelf.old) (F.state shelf.new)
         (O.state out.old) (O.state out.new) result }
 {
-    match inquire(alloc, words, shelf) {
-        Ok(report) => deliver(out, &report),
-        Err(stop) => stop.status(),
+    match job_of(words) {
+        Some(job) => finish(out, answer(alloc, shelf, &job)),
+        None => USAGE,
     }
 }

@@ -8,6 +8,8 @@ mod disk;
 #[cfg(test)]
 mod files;
 #[cfg(test)]
+mod known;
+#[cfg(test)]
 mod lines;
 #[cfg(test)]
 mod streams;

@@ -1,28 +1,26 @@
-use Rattle.std.proofs.Common.{◌∙◌, ap, arith, string_bytes}
-use Rattle.program_frame.proofs.Failing.{failed_as, none_failed, one_error, stands}
-use Rattle.program_frame.proofs.Runs.{IsRun-stopped, IsRun-delivered}
-use Rattle.program_frame.specs.Stops.{status_for}
+use Rattle.program_frame.proofs.Failing.{failed_as}
+use Rattle.program_frame.proofs.Runs.{IsRun-ended, IsRun-unasked, reports_shelf}
+use Rattle.program_frame.proofs.WordLists.{one_asked}
 use Rattle.ca_register.specs.Answer.{command}
-use Rattle.ca_register.proofs.Answered.{delivered_count}
+use Rattle.ca_register.specs.Inquiry.{job_held}
+use Rattle.ca_register.proofs.Answered.{ended_count}
 use Rattle.ca_register.proofs.program.run.Goals as goal
 
-pub returns-in-Ok-clause-ends : goal.returns-in-Ok-clause-ends
-returns-in-Ok-clause-ends g c =
-    IsRun-delivered command _ _ _ c.in-Ok.ensures.settled c.in-Ok.report c.in-Ok.ensures.usage c.in-Ok.ensures.asked c.in-Ok.ensures.low _ _ c.deliver.result c.deliver.ensures.delivered
+pub returns-in-Some-clause-ends : goal.returns-in-Some-clause-ends
+returns-in-Some-clause-ends g c =
+    IsRun-ended command _ _ _ (job_held c.in-Some.job) (rw c.in-Some.is at c.job_of.ensures.asked)
+    (λ other asked. one_asked job_held c.job_of.result c.in-Some.job other c.in-Some.is (c.job_of.ensures.only other asked))
+    c.answer.result c.answer.ensures.found c.answer.ensures.low _ _ c.finish.ensures.capacity c.finish.result c.finish.ensures.ends
 
-pub returns-in-Ok-clause-counted : goal.returns-in-Ok-clause-counted
-returns-in-Ok-clause-counted g c zero =
-    delivered_count _ _ _ c.in-Ok.report c.in-Ok.ensures.counted _ _ c.deliver.result zero c.deliver.ensures.delivered
+pub returns-in-None-clause-ends : goal.returns-in-None-clause-ends
+returns-in-None-clause-ends g c = IsRun-unasked command _ _ _ (rw c.in-None.is at c.job_of.ensures.asked)
 
-pub returns-in-Err-clause-ends : goal.returns-in-Err-clause-ends
-returns-in-Err-clause-ends g c =
-    rw c.status.ensures (IsRun-stopped command _ _ _ c.in-Err.ensures.settled c.in-Err.stop c.in-Err.ensures.usage c.in-Err.ensures.asked _)
+pub returns-in-Some-clause-counted : goal.returns-in-Some-clause-counted
+returns-in-Some-clause-counted g c zero =
+    ended_count _ _ _ c.answer.result (c.answer.ensures.counted _ (rw c.in-Some.is at c.job_of.ensures.asked)) _ _ c.finish.result zero c.finish.ensures.ends
 
-pub returns-in-Ok-clause-shelf_once : goal.returns-in-Ok-clause-shelf_once
-returns-in-Ok-clause-shelf_once g c = none_failed (stands c.in-Ok.ensures.once (λ none. absurd cc))
+pub returns-in-Some-clause-unread : goal.returns-in-Some-clause-unread
+returns-in-Some-clause-unread g c none = absurd (none (job_held c.in-Some.job) (rw c.in-Some.is at c.job_of.ensures.asked))
 
-pub returns-in-Ok-clause-sink_once : goal.returns-in-Ok-clause-sink_once
-returns-in-Ok-clause-sink_once g c = c.deliver.ensures.once
-
-pub returns-in-Err-clause-shelf_once : goal.returns-in-Err-clause-shelf_once
-returns-in-Err-clause-shelf_once g c = failed_as (λ returned. c.status.ensures ∙ ap status_for (one_error c.in-Err.stop _ returned)) c.in-Err.ensures.once
+pub returns-in-Some-clause-shelf_once : goal.returns-in-Some-clause-shelf_once
+returns-in-Some-clause-shelf_once g c = failed_as (reports_shelf c.answer.result _ _ c.finish.result c.finish.ensures.ends) c.answer.ensures.once
