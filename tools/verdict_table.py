@@ -21,8 +21,8 @@ has for it, then key bytes, message and signature in hexadecimal.  The table is 
 Where openssl can't say, as of a key that it doesn't read, the table has no row.  Each
 signature that isn't accepted has a line on standard error, with its number; questions
 count from 1, and one that comes again doesn't count.  There is no table, and the status is
-1, if a line is none of a question, as `refused NAME` or one that is cut, if a SHA-256 in it
-isn't that of the octets in it, if two questions with one row have different verdicts, and
+1, if a line is none of a question, as `refused NAME` or one that is cut, or ends otherwise
+than by one newline, if an octet is past ASCII, if a SHA-256 in a line isn't that of the octets in it, if two questions with one row have different verdicts, and
 past 10,000 questions.  Whether a certificate may be believed isn't said: that is for who
 reads the table.
 """
@@ -97,9 +97,10 @@ def question_in(place, line):
 
 def table_of(text, judge=verdict):
     """The lines of the table for a text of questions, and what isn't accepted."""
-    if text and not text.endswith("\n"):
+    *found, rest = text.split("\n")
+    if rest:
         raise NoTable("the last question has no newline at its end")
-    lines, verdicts, lacking = dict.fromkeys(text.splitlines()), {}, []
+    lines, verdicts, lacking = dict.fromkeys(found), {}, []
     if len(lines) > MOST_ASKED:
         raise NoTable(f"more than {MOST_ASKED} signatures are asked for")
     for place, line in enumerate(lines, 1):
@@ -116,17 +117,23 @@ def table_of(text, judge=verdict):
     return [FIRST_LINE, *(f"{found} {row}" for row, found in verdicts.items())], lacking
 
 
-def main(arguments):
-    if arguments:
-        return command.usage(__doc__)
+def print_table(script, judge=verdict):
+    """Print the table for the questions on standard input; the status."""
     try:
-        rows, lacking = table_of(sys.stdin.read())
+        octets = sys.stdin.buffer.read()
+        if not octets.isascii():
+            raise NoTable("an octet of the questions is past ASCII")
+        rows, lacking = table_of(octets.decode("ascii"), judge)
     except NoTable as why:
-        print(f"verdict_table.py: {command.sentence(why)}", file=sys.stderr)
+        print(f"{script}: {command.sentence(why)}", file=sys.stderr)
         return 1
     print(*rows, sep="\n")
-    sys.stderr.writelines(f"verdict_table.py: {line}\n" for line in lacking)
+    sys.stderr.writelines(f"{script}: {line}\n" for line in lacking)
     return 0
+
+
+def main(arguments):
+    return command.usage(__doc__) if arguments else print_table("verdict_table.py")
 
 
 if __name__ == "__main__":

@@ -32,7 +32,7 @@ import traceback
 from collections import Counter
 from contextlib import contextmanager, redirect_stderr, redirect_stdout
 from hashlib import sha256
-from io import StringIO
+from io import BytesIO, StringIO, TextIOWrapper
 from pathlib import Path
 from struct import pack
 from tempfile import TemporaryDirectory
@@ -213,7 +213,7 @@ def table_for(files):
     """The status of `verdict_table`, of the questions about a signature file or about two certificates and more."""
     octets = [Path(file).read_bytes() for file in files]
     _, lines = question_judge.of_file(*octets) if len(octets) == 1 else question_judge.of_chain(octets)
-    with patch.object(sys, "stdin", StringIO(lines)):
+    with patch.object(sys, "stdin", TextIOWrapper(BytesIO(lines.encode()))):
         return verdict_table.main([])
 
 

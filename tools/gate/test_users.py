@@ -8,7 +8,7 @@ import subprocess
 import sys
 import unittest
 from hashlib import sha256
-from io import StringIO
+from io import BytesIO, StringIO, TextIOWrapper
 from pathlib import Path
 from shutil import which
 from struct import pack
@@ -329,7 +329,7 @@ class QuestionLinesTest(unittest.TestCase):
     @staticmethod
     def said(lines):
         """Status, output and standard error for these lines."""
-        with patch("sys.stdin", StringIO("".join(f"{line}\n" for line in lines))):
+        with patch("sys.stdin", TextIOWrapper(BytesIO("".join(f"{line}\n" for line in lines).encode()))):
             with patch("sys.stderr", StringIO()) as errors, patch("sys.stdout", StringIO()) as out:
                 return verdict_table.main([]), out.getvalue(), errors.getvalue()
 
@@ -385,10 +385,42 @@ class QuestionLinesTest(unittest.TestCase):
             makers = table_makers.makers(folder)
             for text, part in self.altered():
                 for name, words in makers.items():
-                    done = subprocess.run(words, input=text, capture_output=True, text=True)
-                    self.assertEqual((done.returncode in (1, 2), done.stdout, done.stderr.count("\n")), (True, "", 1), name)
-                    why = f"has another SHA-256 than that of its {part}" if part else ""
-                    self.assertIn(why, done.stderr, name)
+                    status, printed, said = self.made(words, text.encode())
+                    self.assertEqual((status, printed, said.count("\n")), (1, "", 1), name)
+                    self.assertIn(f"has another SHA-256 than that of its {part}" if part else "", said, name)
+
+    @staticmethod
+    def made(words, octets):
+        """Status, output and standard error of a maker."""
+        done = subprocess.run(words, input=octets, capture_output=True)
+        return done.returncode, done.stdout.decode(), done.stderr.decode()
+
+    def ended_otherwise(self):
+        """Octets whose lines end by something else than one newline, and the sentence of the makers in Python."""
+        first, second = (line.encode() for line in self.lines()[:2])
+        form = "question {} isn't in the form of one"
+        for end in b"\r\n", b"\r", b"\x0b", b"\x0c", b"\x1c", b"\x1d", b"\x1e", b"\0", b" \n", b"\n\n":
+            place = 2 if end == b"\n\n" else 1
+            yield first + end + second + b"\n", form.format(place)
+            yield first + end + second + end + b"\n", form.format(place)
+        for end in "\x85".encode("latin-1"), "\x85".encode(), "\u2028".encode(), "\u2029".encode(), b"\xff":
+            yield first + end + second + b"\n", "an octet of the questions is past ASCII"
+        for end in b"\r", b"\x0b", b"\x1c", b"\0":
+            yield first + b"\n" + second + end, "the last question has no newline at its end"
+        yield b"\n", form.format(1)
+        yield b"\xef\xbb\xbf" + first + b"\n", "an octet of the questions is past ASCII"
+
+    def test_ended_otherwise(self):
+        """A line ends by one newline and nothing else, for each maker."""
+        with TemporaryDirectory() as folder:
+            makers = table_makers.makers(folder)
+            for octets, why in self.ended_otherwise():
+                for name, words in makers.items():
+                    status, printed, said = self.made(words, octets)
+                    self.assertEqual((status, printed, said.count("\n")), (1, "", 1), (name, octets[-8:]))
+                    self.assertIn(": " if name == "libcrypto" else f": {why}\n", said, name)
+            tables = {self.made(words, "".join(f"{line}\n" for line in self.lines()[:2]).encode()) for words in makers.values()}
+            self.assertEqual([(status, said) for status, _, said in tables], [(0, "")])
 
     def test_a_pool(self):
         """The questions of a chain, whatever the order of the certificates, and that of the root over itself."""

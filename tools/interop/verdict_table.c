@@ -266,7 +266,7 @@ int main(void)
     size_t room = 0;
     ssize_t length;
     while ((length = getline(&line, &room, stdin)) > 0) {
-        if (strcspn(line, "\n") != (size_t)length - 1)
+        if (line[length - 1] != '\n' || strlen(line) != (size_t)length)
             stop("a line has no newline at its end, or an octet 0 in it");
         line[length - 1] = 0;
         answer(line);

@@ -4,7 +4,8 @@
     picky_ask SIG | python3 tools/interop/verdict_table_cryptography.py > TABLE
 
 A second maker of tables, of a few lines: the loop over the questions is that of verdict_table.py, and
-so is the form of signatures.  A question that `cryptography` can't answer has no row.
+so are the form of signatures, standard error and the status.  A question that `cryptography` can't
+answer has no row.
 """
 
 import sys
@@ -18,7 +19,7 @@ sys.path.insert(0, str(Path(__file__).resolve().parents[1]))
 
 from common import command
 from common.signature_forms import NotJudged, has_form
-from verdict_table import table_of
+from verdict_table import print_table
 
 CURVES = {"p256": ec.SECP256R1(), "p384": ec.SECP384R1(), "p521": ec.SECP521R1()}
 
@@ -48,10 +49,7 @@ def verdict(name, key, message, signature):
 
 
 def main(arguments):
-    if arguments:
-        return command.usage(__doc__)
-    print(*table_of(sys.stdin.read(), verdict)[0], sep="\n")
-    return 0
+    return command.usage(__doc__) if arguments else print_table("verdict_table_cryptography.py", verdict)
 
 
 if __name__ == "__main__":
