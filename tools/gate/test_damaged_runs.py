@@ -3,11 +3,13 @@
     python3 -m unittest discover -s tools/gate
 """
 
+import argparse
 import io
 import random
 import sys
 import tempfile
 import unittest
+from collections import Counter
 from contextlib import redirect_stdout
 from pathlib import Path
 
@@ -46,11 +48,60 @@ class DamagedRunsTest(unittest.TestCase):
             self.assertTrue(any(job.said(job.files).startswith("0 ") for job in kind))
             for job in kind:
                 self.assertLessEqual(set(job.changed), job.files.keys())
-        self.assertEqual({job.program for kind in self.kinds for job in kind}, {"picky", "picky_pe", "picky_anchor"})
+        self.assertEqual({job.program for kind in self.kinds for job in kind}, set(damaged_runs.PROGRAMS))
+
+    def test_programs(self):
+        """Those that are named are drawn, each kind of theirs as before others were added."""
+        for programs in ("picky_ask",), ("picky_ca", "picky_pe"):
+            self.assertEqual({job.program for job, _ in damaged_runs.cases(1, 40, programs)}, set(programs))
+        three = damaged_runs.PROGRAMS[:3]
+        self.assertEqual(damaged_runs.jobs_of(three), self.kinds[:6])
+        for word in "", "picky,", "demo", "picky,picky_Ca":
+            with self.assertRaises(argparse.ArgumentTypeError):
+                damaged_runs.names_in(word)
+
+    def test_questions(self):
+        """Several lines are one run's where they are questions."""
+        jobs = {job.words: job for job in self.kinds[6]}
+        texts = [job.said(job.files) for job in jobs.values()]
+        self.assertEqual(damaged_runs.runs_in("".join(f"{text}\n" for text in texts)), texts)
+        self.assertTrue(any(text.count("\n") > 1 for text in texts))
+        self.assertEqual(damaged_runs.runs_in(""), [])
+        self.assertEqual(damaged_runs.runs_in("0 \n1 refused Io\n"), ["0 ", "1 refused Io"])
+        self.assertEqual(damaged_runs.runs_in("0 \nrsa-sha256 00\n"), ["0 ", "rsa-sha256 00"])
+
+    def test_room_for_questions(self):
+        """No questions are longer than the room that their vector has."""
+        for job, files in damaged_runs.cases(5, 300, ["picky_ask"]):
+            self.assertLess(len(job.said(files)), int(damaged_runs.vector(job, files).split(" ")[1]))
+
+    def test_texts(self):
+        """Registers that are accepted, refused and not in the form, by each change."""
+        chance, found = random.Random(3), Counter()
+        for change in damaged_runs.CHANGES_OF_TEXTS:
+            for _ in range(100):
+                job = chance.choice(self.kinds[7])
+                text = change(chance, job.files["r"])
+                found[change, job.said({"r": text}).split(" ")[0]] += text != job.files["r"]
+        for change in set(damaged_runs.CHANGES_OF_TEXTS):
+            for status in "03":
+                self.assertGreater(found[change, status], 0, (change, status))
+        for change in damaged_runs.with_lines, damaged_runs.with_number:
+            self.assertGreater(found[change, "1"], 0, change)
+        job = self.kinds[7][0]
+        self.assertEqual([job.said({"r": octets}) for octets in (b"", b"\xff\n", b"\xc2\x85\n", b"\r\n")], ["0 ca issued=0 accepted=0", *["3 "] * 3])
+
+    def test_ends(self):
+        """Each number becomes one at an end, or beside it."""
+        chance, texts = random.Random(4), set()
+        for _ in range(4000):
+            texts.add(damaged_runs.with_number(chance, b"child 7 00 N - 2020-01-01 2030-01-01\n"))
+        for part in b"child 199 ", b"child 200 ", b"child 6 ", b" 2020-02-01 ", b" 2020-12-01 ", b" 2020-13-01 ", b" 9999-01-01\n", b" 2020-01-32 ":
+            self.assertTrue(any(part in text for text in texts), part)
 
     def test_elements_fit(self):
         chance = random.Random(7)
-        for kind in self.kinds:
+        for kind in self.kinds[:7]:
             job = kind[0]
             octets = job.files[job.changed[0]]
             start, element = damaged_runs.element_in(octets)
@@ -64,7 +115,8 @@ class DamagedRunsTest(unittest.TestCase):
         self.assertNotEqual(first, other)
 
     def test_wrong_answers(self):
-        for answer, why in (("'9 '", "no line of a run"), ("'0 accepted parents=77'", "not "), ("sys.exit(1)", "status 1 of the process")):
+        for answer, why in (("'9 '", "no line of a run"), ("'0 accepted parents=77'", "not "), ("sys.exit(1)", "status 1 of the process"),
+                            ("'1 refused\\nrsa-sha256 ' + 64 * '0' + ' '", "no line of a run")):
             status, text = told(answer)
             self.assertEqual(status, 1)
             self.assertIn(why, text)

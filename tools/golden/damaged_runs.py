@@ -3,15 +3,17 @@
 
 Usage:
 
-    python3 tools/golden/damaged_runs.py [--seed N] [--count N] [--judged N] PROGRAM
-    python3 tools/golden/damaged_runs.py [--seed N] [--count N] --write FOLDER
+    python3 tools/golden/damaged_runs.py [--seed N] [--count N] [--judged N] [--programs NAME,..] PROGRAM
+    python3 tools/golden/damaged_runs.py [--seed N] [--count N] [--programs NAME,..] --write FOLDER
 
 PROGRAM is the executable of the crate `xgolden_run`, which calls `run` of each
 program over files in memory.  The files are signatures by openssl and
 osslsigncode, programs that osslsigncode signed, certificates of openssl's, and
-trust lists, as the tools keep them, each with its verdict table; in each run one
-of them has octets, lengths or whole elements changed, moved, doubled, nested or
-left out.  A run has to end with a status from 0 to 6 and the line for it; a
+trust lists, as the tools keep them, each with its verdict table, and texts of
+registers; in each run one of them has octets, lengths or whole elements changed,
+moved, doubled, nested or left out, and a text octets, lines, or numbers, which
+become those at their ends.  `--programs` says which are run, all five without.
+A run has to end with a status from 0 to 6 and the line for it; a
 batch of runs has to take less than a second of processor time, or else each run
 of it; and what is accepted has to be accepted by the reference implementation in
 Python too, with the same line.  Of the others one in so many (`--judged`) is
@@ -24,6 +26,7 @@ sanitizer.
 
 import argparse
 import random
+import re
 import resource
 import subprocess
 import sys
@@ -37,7 +40,7 @@ from typing import Callable
 
 sys.path.insert(0, str(Path(__file__).resolve().parents[1]))
 
-from cases import list_rows, real_policies
+from cases import ca_run_rows, list_rows, real_policies
 from cases.anchor_run_rows import NONE, run_of, table_for
 from cases.anchor_rows import CROSS, INT, LEAF, ROOT
 from cases.check_making import file
@@ -48,14 +51,18 @@ from golden.compare_basic import at, exchanged, mutation, places
 from golden.xgolden_pe_image import made
 from interop import chains, signed_images
 from interop.signed_files import NAMES, digest_of, table_of
-from judges import anchor_judge, basic_judge, chain_reader, check_judge, pe_judge
+from judges import anchor_judge, basic_judge, chain_reader, check_judge, pe_judge, question_judge, register_lines
 from judges.check_judge import Policy
 from judges.der_reader import Constructed, Malformed, NotWritable, read_exact, read_first, write
 from judges.value_reader import Shape, certificate as read_certificate
 from judges.verdict_rows import verdicts
+from program_check.programs import LONGER
 
 BATCH, LONGEST, SECONDS = 100, 64 * 1024, 1.0
 HEADER = 8
+PROGRAMS = "picky", "picky_pe", "picky_anchor", "picky_ask", "picky_ca"
+# How many registers are drawn beside those that are known.
+REGISTERS = 100
 
 
 @dataclass(frozen=True)
@@ -125,6 +132,20 @@ def said_of_anchor(anchors, names, purpose, digits, table):
     return said
 
 
+def said_of_questions(names, found):
+    def said(files):
+        status, text = found(*[files[name] for name in names])
+        return f"{status} {text}".removesuffix("\n")
+    return said
+
+
+def said_of_register(moment):
+    def said(files):
+        # An octet past ASCII is in no line, whatever its letter.
+        return "{} {}".format(*register_lines.answer(files["r"].decode("latin-1"), moment))
+    return said
+
+
 # The jobs.
 
 def day(digits):
@@ -179,12 +200,36 @@ def of_anchors():
         yield Job("picky_anchor", tuple(words), files, tuple(names), said)
 
 
+def of_questions():
+    """Questions about the same signatures and chains."""
+    for _, one in real_policies.written():
+        yield Job("picky_ask", ("s",), {"s": one.octets}, ("s",), said_of_questions(["s"], question_judge.of_file))
+    known = chains.stored()
+    for case in chains.CASES:
+        files = {f"c{place}": known[label] for place, label in enumerate(case.labels)}
+        said = said_of_questions(list(files), lambda *octets: question_judge.of_chain(octets))
+        yield Job("picky_ask", ("--chain", *files), files, tuple(files), said)
+
+
+def of_registers():
+    """Registers, none of which is empty."""
+    for text, word, *_ in (*ca_run_rows.known(), *ca_run_rows.drawn(REGISTERS)):
+        if text:
+            said = said_of_register(ca_run_rows.moment_of(word))
+            yield Job("picky_ca", ("r", word), {"r": text.encode()}, ("r",), said)
+
+
 @cache
 def jobs():
     """All jobs by their kind, each of which is drawn as often: those of signatures that are accepted, the others, and so on."""
     signatures = list(of_signatures())
     accepted = [job for job in signatures if job.said(job.files).startswith("0 ")]
-    return [accepted, signatures, *(list(kind()) for kind in (of_images, of_chains, of_lists, of_anchors))]
+    return [accepted, signatures, *(list(kind()) for kind in (of_images, of_chains, of_lists, of_anchors, of_questions, of_registers))]
+
+
+def jobs_of(programs):
+    """Those of these programs, by their kind."""
+    return [kind for kind in jobs() if kind[0].program in programs]
 
 
 # Changes.
@@ -291,25 +336,57 @@ def refitted(octets, start, value):
     return front + value
 
 
+ENDS = b"0", b"1", b"19", b"198", b"199", b"200", b"254", b"255", b"256", b"999", b"1000", b"12", b"13", b"28", b"29", b"31", b"32", b"9999", b"65536", b"4294967296", b"18446744073709551616"
+
+
+def with_lines(chance, octets):
+    """Lines left out, doubled, moved or exchanged."""
+    lines = octets.splitlines(keepends=True)
+    for _ in range(chance.choice((1, 1, 2, 4))):
+        place, other = chance.randrange(len(lines)), chance.randrange(len(lines))
+        one = lines.pop(place) if chance.random() < 0.7 else lines[place]
+        if chance.random() < 0.7:
+            lines.insert(other, one)
+        if not lines:
+            break
+    return b"".join(lines)
+
+
+def with_number(chance, octets):
+    """A number that is one at the end of its range, or beside it, with zeros in front now and then."""
+    found = list(re.finditer(rb"[0-9]+", octets))
+    if not found:
+        return with_octets(chance, octets)
+    one = chance.choice(found)
+    near = b"%d" % max(0, int(one[0]) + chance.choice((-1, 1)))
+    number = chance.choice((near, *ENDS))
+    if chance.random() < 0.7:
+        number = number.zfill(len(one[0]))
+    return octets[:one.start()] + number + octets[one.end():]
+
+
 CHANGES = with_octets, with_range, with_length, with_elements, with_elements
+CHANGES_OF_TEXTS = with_octets, with_range, with_lines, with_lines, with_number, with_number
 
 
 def case(chance, kinds):
     """A job and its files, one of them changed; None where that one is too long."""
     job = chance.choice(chance.choice(kinds))
     name = chance.choice(job.changed)
-    octets = chance.choice(CHANGES)(chance, job.files[name])
+    changes = CHANGES_OF_TEXTS if job.program == "picky_ca" else CHANGES
+    octets = chance.choice(changes)(chance, job.files[name])
     if chance.random() < 0.1 and octets:
         octets = with_octets(chance, octets)
     return None if len(octets) > LONGEST else (job, {**job.files, name: octets})
 
 
 def vector(job, files):
-    return row(job.program, ROOM, None, files, job.words, (0, ""))[0]
+    room = ROOM + LONGER * sum(map(len, files.values())) if job.program == "picky_ask" else ROOM
+    return row(job.program, room, None, files, job.words, (0, ""))[0]
 
 
-def cases(seed, count):
-    chance, kinds, found = random.Random(seed), jobs(), 0
+def cases(seed, count, programs=PROGRAMS):
+    chance, kinds, found = random.Random(seed), jobs_of(programs), 0
     while found < count:
         made_case = case(chance, kinds)
         if made_case:
@@ -327,7 +404,12 @@ def run(program, vectors, folder):
     done = subprocess.run([program, rows], stdin=subprocess.DEVNULL, capture_output=True)
     after = resource.getrusage(resource.RUSAGE_CHILDREN)
     took = after.ru_utime + after.ru_stime - before.ru_utime - before.ru_stime
-    return done.stdout.decode(errors="replace").splitlines(), done.returncode, took
+    return runs_in(done.stdout.decode(errors="replace")), done.returncode, took
+
+
+def runs_in(text):
+    """What is printed of each run: a line with its status in front, and the lines of further questions."""
+    return re.split(r"\n(?![a-z][a-z0-9-]* [0-9a-f]{64} )", text.removesuffix("\n")) if text else []
 
 
 class Figures:
@@ -346,7 +428,7 @@ class Figures:
             self.runs += 1
             self.counts[job.program, " ".join(line.split()[:2]) if not line.startswith("0") else "0 accepted"] += 1
             is_accepted = line.startswith("0 ")
-            if line[:2] not in ("0 ", "1 ", "2 ", "3 ", "4 ", "5 ", "6 ", "7 "):
+            if line[:2] not in ("0 ", "1 ", "2 ", "3 ", "4 ", "5 ", "6 ", "7 ") or ("\n" in line and not is_accepted):
                 self.tell(f"no line of a run: {line}", vector(job, files))
             if is_accepted or self.runs % self.judged == 0:
                 self.compared += 1
@@ -374,11 +456,11 @@ def one_by_one(program, batch, figures, folder):
     return lines
 
 
-def judge(program, seed, count, judged):
+def judge(program, seed, count, judged, programs=PROGRAMS):
     """Runs so many cases, and prints the figures: 0 where nothing is wrong."""
     figures, batch = Figures(judged), []
     with tempfile.TemporaryDirectory() as name:
-        for number, one in enumerate(cases(seed, count), 1):
+        for number, one in enumerate(cases(seed, count, programs), 1):
             batch.append(one)
             if len(batch) < BATCH and number < count:
                 continue
@@ -394,10 +476,10 @@ def judge(program, seed, count, judged):
     return 1 if figures.wrong else 0
 
 
-def write_cases(folder, seed, count):
+def write_cases(folder, seed, count, programs=PROGRAMS):
     """Writes the vectors, so many to a file."""
     batch, number = [], 0
-    for number, one in enumerate(cases(seed, count), 1):
+    for number, one in enumerate(cases(seed, count, programs), 1):
         batch.append(vector(*one))
         if len(batch) == BATCH or number == count:
             Path(folder, f"{number:08}").write_text("".join(f"{line}\n" for line in batch), encoding="ascii")
@@ -405,19 +487,28 @@ def write_cases(folder, seed, count):
     return 0
 
 
+def names_in(word):
+    """The names of programs in a word."""
+    names = tuple(word.split(","))
+    if not set(names) <= set(PROGRAMS):
+        raise argparse.ArgumentTypeError(f"'{word}' has another name than {', '.join(PROGRAMS)}")
+    return names
+
+
 def main(arguments):
     parser = argparse.ArgumentParser(description="Runs of the programs on real files changed at random.")
     parser.add_argument("--seed", type=int, default=1)
     parser.add_argument("--count", type=int, default=10_000)
     parser.add_argument("--judged", type=int, default=20, help="one in so many refusals is compared")
+    parser.add_argument("--programs", type=names_in, default=PROGRAMS, metavar="NAME,..", help="the programs that are run")
     parser.add_argument("--write", type=Path, metavar="FOLDER", help="write the vectors, and run nothing")
     parser.add_argument("program", type=command.executable, nargs="?", help="path of xgolden_run")
     words = parser.parse_args(arguments)
     if words.write is not None:
-        return write_cases(words.write, words.seed, words.count)
+        return write_cases(words.write, words.seed, words.count, words.programs)
     if words.program is None:
         return command.usage(__doc__)
-    return judge(words.program.resolve(), words.seed, words.count, words.judged)
+    return judge(words.program.resolve(), words.seed, words.count, words.judged, words.programs)
 
 
 if __name__ == "__main__":
