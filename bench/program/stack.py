@@ -8,9 +8,10 @@ Usage:
 runs each PROGRAM, the executable of the crate of its name, on the commands of
 `run_rows`, and on files that are nested as deep as they may be, or have as many
 parts: counter-signatures and tokens in one another, 64 levels in an extension, a
-name of 10,000 sets, 2,000 members and 4,000 attributes.  A row says the least
-limit of the stack, in KiB, under which the run answers as without one, found by
-halving.  Exit status 1 says that one takes more than an eighth of the usual 8 MiB.
+name of 10,000 sets, 2,000 members and 4,000 attributes; and a register of 200
+lines, each below the one before.  A row says the least limit of the stack, in KiB,
+under which the run answers as without one, found by halving, and the beginning of
+the answer.  Exit status 1 says that one takes more than an eighth of the usual 8 MiB.
 """
 
 import os
@@ -22,13 +23,13 @@ from pathlib import Path
 
 sys.path.insert(0, str(Path(__file__).resolve().parents[2] / "tools"))
 
-from cases import hostile_files, run_rows
+from cases import ca_run_rows, hostile_files, run_rows
 from cases.check_parts import BASIC, IN, OVER
 from cases.first_path import FILE_HASH
 from cases.hostile_certificates import LEVELS
 from common import command
 
-MOST, USUAL = 1024, 8192
+MOST, USUAL, SHOWN = 1024, 8192, 60
 # The rows of `hostile_files` that are nested deepest or have most parts.
 DEEP = ("13 counter-signatures", "14 counter-signatures", "six tokens", "seven tokens", "a name of 10,000 sets", "4,000 unsigned", "2,000 members")
 DATES = {BASIC: None, IN: "2025-01-01", OVER: "2031-01-01"}
@@ -58,6 +59,11 @@ def rows(name):
     if name == "picky":
         yield from signatures()
         yield from certificates()
+    if name == "picky_ask":
+        yield from ((label, ("s",), {"s": files["s"]}) for label, _, files in signatures())
+        yield from ((label, ("--chain", "c", "c"), {"c": files["c"]}) for label, _, files in certificates())
+    if name == "picky_ca":
+        yield "200 lines", ("r", "2025-01-01"), {"r": (ca_run_rows.ROOT + ca_run_rows.LINE_OF_CAS).encode()}
 
 
 def answer(program, words, folder, limit):
@@ -94,7 +100,7 @@ def main(words):
         name = os.path.basename(program)
         for label, line, files in rows(name):
             size, (status, text) = least(program, line, files)
-            print(f"| {name} | {label} | {size} | {status} {text.decode().strip()} |", flush=True)
+            print(f"| {name} | {label} | {size} | {status} {text.decode().strip()[:SHOWN]} |", flush=True)
             most = max(most, size)
     return 1 if most > MOST else 0
 
