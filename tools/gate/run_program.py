@@ -8,7 +8,9 @@ Usage:
 runs PROGRAM, the executable of the crate `picky`, once for each row below,
 in a fresh folder with the files of the row, and compares the exit status,
 the octets on standard output and standard error, which must stay empty.  Each
-run has a stack of 1 MiB.
+run has a stack of 1 MiB.  Where PROGRAM is in crates/picky/out, the other programs
+are run so too, in crates/NAME/out/NAME, once for each of their commands in
+`run_rows.py`.
 
 The contracts of `picky_check` speak of shelves and sinks, and stop where
 the system begins: at the words of the command line, the paths of files,
@@ -42,7 +44,7 @@ from pathlib import Path
 
 sys.path.insert(0, str(Path(__file__).resolve().parents[1]))
 
-from cases import basic_steps, basic_world, check_making, check_parts, check_rows, list_rows
+from cases import basic_steps, basic_world, check_making, check_parts, check_rows, list_rows, run_rows
 from cases import issuing_chains as issued
 from cases.first_path import FILE_HASH, signature_file, verdict_line
 from common import command
@@ -728,6 +730,16 @@ ROWS = [
 ]
 
 
+def other_programs(program):
+    """The other programs beside this one, each with a row for a command; none where this one is elsewhere."""
+    if program.parts[-3:] != ("picky", "out", "picky"):
+        return
+    for one in run_rows.commands():
+        if one.program != "picky":
+            path = program.parents[2] / one.program / "out" / one.program
+            yield path, Row(f"{one.program}: {' '.join(one.words)}", one.words, one.status, f"{one.line}\n", one.files)
+
+
 def make_file(path, octets):
     if isinstance(octets, Folder):
         os.mkdir(path)
@@ -796,6 +808,8 @@ def difference(program, row):
             answer = run(program, row, folder)
         except subprocess.TimeoutExpired:
             return f"no answer within {SECONDS} seconds"
+        except OSError as error:
+            return command.sentence(error)
     wanted = (row.status, row.line.encode("ascii"), b"")
     if answer == wanted:
         return None
@@ -810,12 +824,20 @@ def main(arguments):
     if not os.access(program, os.X_OK) or not program.is_file():
         print(f"run_program.py: {arguments[0]} is no program", file=sys.stderr)
         return 2
-    differences = [(row, difference(program, row)) for row in ROWS]
-    failed = [(row, what) for row, what in differences if what]
-    for row, what in failed:
-        print(f"{row.why}: {what}")
-    print(f"runs of the program: {len(ROWS) - len(failed)} as expected, {len(failed)} not")
+    others = list(other_programs(program))
+    failed = count_failed("runs of the other programs", others) if others else 0
+    failed += count_failed("runs of the program", [(program, row) for row in ROWS])
     return 1 if failed else 0
+
+
+def count_failed(what, runs):
+    """How many runs of programs differ from their rows, each of which is printed, and then their number."""
+    differences = [(row, difference(program, row)) for program, row in runs]
+    failed = [(row, differs) for row, differs in differences if differs]
+    for row, differs in failed:
+        print(f"{row.why}: {differs}")
+    print(f"{what}: {len(runs) - len(failed)} as expected, {len(failed)} not")
+    return len(failed)
 
 
 if __name__ == "__main__":

@@ -104,6 +104,23 @@ class CommandsTest(unittest.TestCase):
             names.add(one.program)
         self.assertEqual(names, {"picky", "picky_pe", "picky_anchor", "picky_ask", "picky_ca"})
 
+    def test_other_programs(self):
+        """Each has a row in `run_program`; a program that isn't there, or ends otherwise, differs."""
+        with tempfile.TemporaryDirectory() as name:
+            folder = Path(name)
+            runs = list(run_program.other_programs(folder / "picky/out/picky"))
+            paths = {path.relative_to(folder).as_posix() for path, _ in runs}
+            self.assertEqual(paths, {f"{one}/out/{one}" for one in ("picky_pe", "picky_anchor", "picky_ask", "picky_ca")})
+            self.assertEqual(list(run_program.other_programs(folder / "picky")), [])
+            failed, text = printed(run_program.count_failed, "runs", runs)
+            self.assertEqual((failed, text.splitlines()[-1]), (len(runs), f"runs: 0 as expected, {len(runs)} not"))
+            for path, row in runs:
+                path.parent.mkdir(parents=True, exist_ok=True)
+                for status in row.status, 1 - row.status:
+                    path.write_text(f"#!/bin/sh\nprintf '%s' '{row.line}'\nexit {status}\n")
+                    path.chmod(0o755)
+                    self.assertEqual(run_program.difference(path, row) is None, status == row.status, row.why)
+
     def test_greatest_files(self):
         lengths = [len(octets) * count for octets, count in (run_rows.GREATEST, run_rows.TOO_GREAT)]
         self.assertEqual(lengths, [16_777_216, 16_777_217])
