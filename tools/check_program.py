@@ -39,7 +39,7 @@ from shutil import which
 from time import monotonic
 
 from common import command
-from program_check import roots
+from program_check import roots, text
 from program_check.check import Question, check
 from program_check.programs import Programs, Tried
 from program_check.report import Report
@@ -166,7 +166,7 @@ def write(report, as_json):
     if as_json:
         print(json.dumps(report.json(), ensure_ascii=True))
     elif report.verdict == "not checked":
-        print(f"check_program.py: {report.file}: {report.sentence}", file=sys.stderr)
+        print(text.visible(f"check_program.py: {report.file}: {report.sentence}"), file=sys.stderr)
     else:
         print("\n".join(report.lines()))
     sys.stdout.flush()

@@ -14,7 +14,7 @@ reference implementations in place of the programs.  Any exception is a differen
 the octets of the file, and makes the exit status 1.
 
 The files are signatures of the repository and of openssl and osslsigncode, with their
-programs where a program is asked for, and certificates in DER, each with one that is
+programs where a program is asked for, one of them with a name and an address added, and certificates in DER, each with one that is
 whole.  In half of them elements are left out, repeated, exchanged, changed or
 get another tag, with right lengths around them.  In the others octets are changed, left
 out, put in or repeated, the rest is cut off, or a tag or a length is another, one to four
@@ -48,6 +48,7 @@ import verdict_table
 from cases.basic_world import signature_file
 from common import command, folders
 from common.openssl import OpensslError
+from gate.changed_programs import described
 from gate.programs_stand_in import StandIn
 from golden.compare_basic import at, exchanged, mutation, places
 from interop import chains, signed_programs, world_signatures
@@ -86,8 +87,11 @@ def signatures():
 
 
 def programs():
-    for one in signed_programs.stored().values():
+    """Those that are stored, and one with a name and an address of its signer's and a token, which osslsigncode doesn't sign here."""
+    stored = signed_programs.stored()
+    for one in stored.values():
         yield "program", one.octets
+    yield "program", described(stored["stamped"].octets)
 
 
 # Damage.

@@ -17,7 +17,7 @@ from program_check import anchors, asking, explain, kinds, notes, reasons, stamp
 from program_check.certificate import LIFETIME_SIGNING
 from program_check.programs import Disagreement, NotChecked
 from program_check.report import Report
-from program_check.signature import Signature, further_entries
+from program_check.signature import MOST_STAMPS, Signature, further_entries
 from verdict_table import NoTable
 
 MOST_OCTETS = 16_777_216
@@ -181,6 +181,7 @@ class Check:
         signer = subject.signature.signer
         question.progress("openssl verifies time stamps")
         found = [stamps.verified(one, signer.octets, question.stamp_roots.ders()) for one in subject.signature.stamps()]
+        self.report.notes += [notes.STAMPS.format(MOST_STAMPS)] if subject.signature.has_more_stamps() else []
         used = None if question.at or self.is_for_a_lifetime(subject, found) else stamps.used(found, stamps.epoch(now))
         self.report.stamps = [one.shown(one is used) for one in found]
         date, source = (question.at, "as given by --at") if question.at else (used.stamp.time, "the time of the stamp") if used else (now, "now")

@@ -57,7 +57,10 @@ class Report:
         return asdict(self)
 
     def lines(self):
-        """What is printed for people; the verdict comes last."""
+        """What is printed for people; the verdict comes last.  Nothing out of a file ends a line or changes the terminal."""
+        return map(text.visible, self.parts())
+
+    def parts(self):
         yield from self.of_the_file()
         yield from self.of_the_signer()
         yield from self.of_the_path()

@@ -133,18 +133,22 @@ class Signature:
             return None
 
     def description(self):
-        """The name of the program and the address that the signer wrote (SpcSpOpusInfo), None each where there is none."""
-        found = {0xA0: None, 0xA1: None}
+        """The name of the program and the address that the signer wrote (SpcSpOpusInfo), None each where there is none.
+
+        Other fields than these two aren't read.
+        """
+        found = dict.fromkeys(OPUS_FIELDS)
         try:
             opus = self.signer.attribute(OPUS_INFO)
             for field in opus.kids if opus else ():
-                found[field.tag] = OPUS_FIELDS[field.tag](field.kids[0])
+                if field.tag in OPUS_FIELDS:
+                    found[field.tag] = OPUS_FIELDS[field.tag](field.kids[0])
         except NOT_READ:
             pass
-        return found[0xA0], found[0xA1]
+        return tuple(found.values())
 
     def stated_time(self):
-        """When the signer says that it signed, None where it doesn't."""
+        """When the signer says that it signed, None where it doesn't or where that is no time."""
         try:
             value = self.signer.attribute(SIGNING_TIME)
             return text.moment_of(value) if value else None
@@ -158,10 +162,19 @@ class Signature:
         found = []
         for oid, read in (MICROSOFT_COUNTERSIGNATURE, token), (COUNTERSIGNATURE, countersignature):
             try:
-                found += [read(value, self) for value in self.signer.values(oid)]
+                values = self.signer.values(oid)
             except NOT_READ:
-                found.append(Stamp("unreadable", None, None, [], b"", "it can't be read"))
-        return found
+                found.append(UNREADABLE)
+            else:
+                found += [stamp_of(value, read, self) for value in values[:MOST_STAMPS]]
+        return found[:MOST_STAMPS]
+
+    def has_more_stamps(self):
+        """Whether there are more stamps than are read."""
+        try:
+            return sum(len(self.signer.values(oid)) for oid in (MICROSOFT_COUNTERSIGNATURE, COUNTERSIGNATURE)) > MOST_STAMPS if self.signer else False
+        except NOT_READ:
+            return False
 
     def nested(self):
         """The signatures in attributes of the signer."""
@@ -221,13 +234,24 @@ class Stamp(NamedTuple):
 
 
 TOKEN, COUNTER = "RFC 3161", "counter-signature (PKCS #9)"
+UNREADABLE = Stamp("unreadable", None, None, [], b"", "it can't be read")
+# Each stamp is a call of openssl with all certificates of the signature; signers have one.
+MOST_STAMPS = 8
+
+
+def stamp_of(element, read, signature):
+    """The stamp that a value is, by the reader of its kind."""
+    try:
+        return read(element, signature)
+    except NOT_READ:
+        return UNREADABLE
 
 
 def token(element, _):
     """A token: its content holds a TSTInfo (RFC 3161 2.4.2), the time of which is the first GeneralizedTime."""
     signed = SignedData.of(element)
     stated = read_exact(signed.content.contents)
-    time = next(text.moment_of(field) for field in stated.kids if field.tag == 0x18)
+    time = next((text.moment_of(field) for field in stated.kids if field.tag == 0x18), None)
     by = next((one for one in signed.certificates if signed.signers[0].names(one)), None)
     return Stamp(TOKEN, time, by, signed.certificates, write(certificates_alone(element)))
 

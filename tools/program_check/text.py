@@ -5,11 +5,12 @@ the like are escaped as in RFC 4514 2.4, and so is each character that doesn't p
 that changes the direction of the text, by its octets.
 """
 
+import re
 from unicodedata import category
 
 from judges.chain_reader import year_of
 from judges.der_reader import Malformed, read_exact
-from judges.value_reader import dotted, value_text
+from judges.value_reader import Shape, dotted, value_text
 
 # RFC 4514 3, RFC 4519; the last ones as openssl names them.
 SHORT = {
@@ -24,11 +25,18 @@ ESCAPED = set(',+"\\<>;')
 # Controls, formats (those that turn the text around among them), surrogates, private and unassigned characters, ends of lines.
 HIDDEN = {"Cc", "Cf", "Cs", "Co", "Cn", "Zl", "Zp"}
 MOST_CHARACTERS = 400
+# The forms of UTCTime and GeneralizedTime in DER (X.690 11.7, 11.8).
+TIMES = {0x17: re.compile(rb"[0-9]{12}Z"), 0x18: re.compile(rb"[0-9]{14}(?:\.[0-9]+)?Z")}
 
 
 def clean(text):
     """A text from outside, on one line and without what doesn't print."""
-    return "".join(octets_of(one) if category(one) in HIDDEN else one for one in text[:MOST_CHARACTERS])
+    return visible(text[:MOST_CHARACTERS])
+
+
+def visible(text):
+    """A text of any length, on one line and without what doesn't print."""
+    return "".join(octets_of(one) if category(one) in HIDDEN else one for one in text)
 
 
 def octets_of(character):
@@ -80,7 +88,10 @@ def moment(digits):
 
 
 def moment_of(element):
-    """A UTCTime or a GeneralizedTime as a DATE of the programs; parts of a second are left out."""
+    """A UTCTime or a GeneralizedTime as a DATE of the programs, without parts of a second; Shape where it isn't in the form of one."""
+    form = TIMES.get(element.tag)
+    if form is None or not form.fullmatch(element.contents):
+        raise Shape("the time isn't in the form of one")
     return moment(year_of(element).partition(".")[0])
 
 
