@@ -4,6 +4,7 @@ It takes eight anchors and 32 other certificates at a time, in any order, so wit
 roots it is called several times, and the shortest path counts.
 """
 
+from itertools import islice
 from typing import NamedTuple
 
 from program_check.programs import Disagreement
@@ -27,16 +28,27 @@ class Found(NamedTuple):
 
 
 def pool_of(certificates, first):
-    """The other certificates that a path may go through, 32 at most: those that names lead to, in the file's order."""
-    wanted, reached = [first.parts.issuer], []
-    others = [one for at, one in enumerate(certificates) if one != first and one not in certificates[:at]]
-    while wanted:
-        name = wanted.pop()
-        for one in others:
-            if one.parts.subject == name and one not in reached:
-                reached.append(one)
-                wanted.append(one.parts.issuer)
-    return [one for one in others if one in reached][:MOST_POOL], len(reached) > MOST_POOL
+    """The other certificates that a path may go through, in the file's order, and whether there are more than 32.
+
+    They are those that names lead to, of more than 32 the ones that are reached first.
+    Each name is looked up once.
+    """
+    others = [one for one in dict.fromkeys(certificates) if one != first]
+    reached = list(islice(reached_from(first, others), MOST_POOL + 1))
+    nearest = set(reached[:MOST_POOL])
+    return [one for one in others if one in nearest], len(reached) > MOST_POOL
+
+
+def reached_from(first, others):
+    """The certificates that issuers' names lead to, nearest first, each once."""
+    named = {}
+    for one in others:
+        named.setdefault(one.parts.subject, []).append(one)
+    wanted = [first.parts.issuer]
+    for name in wanted:
+        for one in named.pop(name, ()):
+            yield one
+            wanted.append(one.parts.issuer)
 
 
 def numbers(words):

@@ -4,14 +4,17 @@
 the file is read here.
 """
 
+from itertools import islice
 from typing import NamedTuple
 
 import verdict_table
-from program_check import text
+from program_check import notes, text
 
 ASK = "picky_ask"
 # A signer's message is a SET, and a certificate's a SEQUENCE.
 OF_SIGNER = "31"
+# Each pair is a call of `picky_ask` and one of openssl; a chain of 32 has 33.
+MOST_PAIRS = 100
 
 
 class Table(NamedTuple):
@@ -30,11 +33,12 @@ def questions(programs, files, entry, children=(), parents=()):
     their issuer (RFC 5280 4.1.1.3), and come behind those of the signature file.
     """
     calls = [([files.of("signature.bin", entry)], "signature")] if entry is not None else []
-    for place, pair in enumerate(between(children, parents)):
+    pairs = list(islice(between(children, parents), MOST_PAIRS + 1))
+    for place, pair in enumerate(pairs[:MOST_PAIRS]):
         written = files.certificates(f"asked{place}_", [one.der for one in pair])
         calls.append((["--chain", *written], "certificate '{}' or '{}'".format(*(one.called() for one in pair))))
     programs.expect([(ASK, words) for words, _ in calls])
-    asked, unread = [], []
+    asked, unread = [], [notes.PAIRS.format(MOST_PAIRS)] if len(pairs) > MOST_PAIRS else []
     for words, what in calls:
         answer = programs.run(ASK, words, ASK)
         if answer.accepted() is None:
@@ -45,8 +49,11 @@ def questions(programs, files, entry, children=(), parents=()):
 
 
 def between(children, parents):
-    """Each certificate, with each of the others that has its issuer's name."""
-    return [(child, parent) for child in children for parent in parents if parent.parts.subject == child.parts.issuer]
+    """Each certificate, with each of the others that has its issuer's name, in their order."""
+    named = {}
+    for parent in dict.fromkeys(parents):
+        named.setdefault(parent.parts.subject, []).append(parent)
+    return ((child, parent) for child in children for parent in named.get(child.parts.issuer, ()))
 
 
 def made(programs, files, entry, children=(), parents=(), progress=lambda words: None):

@@ -215,7 +215,7 @@ class Check:
         signature = subject.signature
         children = [signature.certificates[index], *pool] if index is not None else []
         try:
-            parents = [*pool, *(root.certificate for root in roots)]
+            parents = [*(root.certificate for root in roots), *pool]
             table = asking.made(self.programs, self.files, subject.entry, children, parents, self.question.progress)
         except NoTable as refusal:
             raise NotChecked(2, f"no table is made for the file: {refusal}") from refusal
