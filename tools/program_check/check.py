@@ -255,6 +255,8 @@ class Check:
     @staticmethod
     def expect_same(subject, expected, parts):
         """The line is about the signer and the digest that are shown here."""
+        if parts["signer"] is None:
+            raise Disagreement("the program answers as of a chain, and was asked about a signature")
         if expected is None or int(parts["signer"]) != expected:
             raise Disagreement(f"the program names certificate {parts['signer']} as the signer's, and here it is {'none' if expected is None else expected}")
         stated = subject.signature.stated_digest()

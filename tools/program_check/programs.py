@@ -15,11 +15,15 @@ from typing import NamedTuple
 
 from common import command, folders
 
+# An index, and a list of some.
+INDEX = "[0-9]{1,9}"
+INDEXES = f"(?:{INDEX}(?:,{INDEX})*)?"
+SIGNED = rf"signer=(?P<signer>{INDEX}) path=(?P<path>{INDEXES}) excuse=(?P<excuse>none|bag|token)\n"
 ACCEPTED = {
-    "picky": r"accepted (?:parents=(?P<parents>\d+)|signer=(?P<signer>\d+) path=(?P<path>[\d,]*) excuse=(?P<excuse>none|bag|token))\n",
-    "picky_pe": r"accepted signer=(?P<signer>\d+) path=(?P<path>[\d,]*) excuse=(?P<excuse>none|bag|token)\n",
+    "picky": rf"accepted (?:parents=(?P<parents>{INDEX})\n|{SIGNED})",
+    "picky_pe": rf"accepted {SIGNED}",
     "picky_ask": r"(?:[a-z0-9-]+(?: [0-9a-f]{64}){3}(?: [0-9a-f]*){3}\n)*",
-    "picky_anchor": r"anchored pool=(?P<pool>[\d,]*) anchor=(?P<anchor>\d+)\n",
+    "picky_anchor": rf"anchored pool=(?P<pool>{INDEXES}) anchor=(?P<anchor>{INDEX})\n",
 }
 REFUSED = re.compile(r"refused (?P<name>[A-Za-z0-9]+(?::[A-Za-z0-9]+)*)\n")
 # What each other status says (docs/MANUAL.md).
