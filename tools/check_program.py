@@ -190,4 +190,6 @@ def main(arguments):
 
 
 if __name__ == "__main__":
+    # A name may have characters that the output's encoding hasn't.
+    sys.stdout.reconfigure(errors="backslashreplace")
     command.run(main, __doc__)
