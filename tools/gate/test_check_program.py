@@ -11,12 +11,14 @@ import re
 import subprocess
 import sys
 import unittest
+from collections import Counter
 from contextlib import redirect_stderr, redirect_stdout
 from io import StringIO
 from itertools import permutations
 from pathlib import Path
 from shutil import which
 from tempfile import TemporaryDirectory
+from time import process_time
 from unittest.mock import patch
 
 sys.path.insert(0, str(Path(__file__).resolve().parents[1]))
@@ -25,19 +27,24 @@ import check_program
 import signed_program
 import verdict_table
 from cases import basic_world
-from common.openssl import openssl
+from common.openssl import OpensslError, openssl
+from common.signature_forms import NotJudged
 from gate import damaged_files
+from gate.changed_programs import (
+    ASCII, SIGNED, UNSIGNED, attribute, described, opus, opus_link, opus_name, with_attribute, with_certificates, with_entry, with_signer,
+)
 from gate.programs_stand_in import StandIn
 from interop import signed_images, signed_programs, world_signatures
 from interop.signature_making import portable_executable
-from judges import asked_signatures, question_judge
-from judges.der_reader import Constructed, Primitive, write
-from program_check import anchors, asking, kinds, programs, reasons, stamps, text
+from judges import question_judge
+from judges.der_reader import Constructed, Primitive, read_exact, write
+from judges.value_reader import Shape
+from program_check import anchors, asking, kinds, notes, programs, reasons, stamps, text
 from program_check.certificate import Certificate
 from program_check.programs import Answer, Disagreement, NotChecked, Programs, Tried
 from program_check.report import Report
 from program_check.roots import Root, Roots
-from program_check.signature import Signature, Stamp
+from program_check.signature import COUNTERSIGNATURE, MOST_STAMPS, SIGNING_TIME, Signature, Stamp
 
 NOW = "2023-06-15T12:00:00"
 STORED = signed_programs.stored()
@@ -94,22 +101,16 @@ def changed(octets, at):
     return octets[:at] + bytes([octets[at] ^ 1]) + octets[at + 1:]
 
 
-def with_entry(program, entry):
-    """A program with another certificate table."""
-    optional, place, at, _ = signed_program.parts(program)
-    padded = entry + bytes(-len(entry) % 8)
-    return program[:optional + place + 4] + len(padded).to_bytes(4, "little") + program[optional + place + 8:at] + padded
+def numbered(certificate, serial):
+    """A certificate with another serial number, so that its signature is a false one."""
+    tbs, *rest = certificate.kids
+    version, _, *fields = tbs.kids
+    return certificate._replace(kids=(tbs._replace(kids=(version, Primitive(2, serial), *fields)), *rest))
 
 
-def with_signer(program, change):
-    """A program whose first signer is another one."""
-    entry = signed_program.signature(program)
-    element = asked_signatures.content_info_in(entry)[0]
-    signed = element.kids[1].kids[0]
-    signers = signed.kids[-1]
-    signed = signed._replace(kids=(*signed.kids[:-1], signers._replace(kids=(change(signers.kids[0]), *signers.kids[1:]))))
-    der = write(element._replace(kids=(element.kids[0], element.kids[1]._replace(kids=(signed,)))))
-    return with_entry(program, basic_world.signature_file(der))
+def namesakes(certificate, many):
+    """So many certificates of one name."""
+    return [numbered(certificate, b"\1" + number.to_bytes(2, "big")) for number in range(many)]
 
 
 @unittest.skipUnless(which("openssl"), "openssl isn't there")
@@ -208,20 +209,8 @@ class VerdictTest(unittest.TestCase):
 
     def test_a_namesake(self):
         """Another certificate of the signer's subject ahead of the signer's: the usages that are looked at are the signer's."""
-        octets = STORED["three"].octets
-        entry = signed_program.signature(octets)
-        element = asked_signatures.content_info_in(entry)[0]
-        signed = element.kids[1].kids[0]
-        bag = signed.kids[3]
         # Its serial number is another one, so it isn't the signer's; its signature is bad.
-        own = bag.kids[2]
-        fields = list(own.kids[0].kids)
-        fields[1] = Primitive(2, changed(fields[1].contents, 3))
-        namesake = own._replace(kids=(own.kids[0]._replace(kids=tuple(fields)), *own.kids[1:]))
-        kids = list(signed.kids)
-        kids[3] = bag._replace(kids=(namesake, *bag.kids))
-        der = write(element._replace(kids=(element.kids[0], element.kids[1]._replace(kids=(signed._replace(kids=tuple(kids)),)))))
-        report = checked(with_entry(octets, basic_world.signature_file(der)))
+        report = checked(with_certificates(STORED["three"].octets, lambda held: [numbered(held[2], b"\1"), *held]))
         self.assertEqual((report.verdict, report.answers[0]["line"]), ("accepted", PE_LINE))
         self.assertTrue(any("in the order of the path" in note for note in report.notes))
 
@@ -318,6 +307,93 @@ class DisagreementTest(unittest.TestCase):
             for status in (2, 3, 4, 5, 6, 7):
                 report = self.of(program, status, "")
                 self.assertEqual((report.verdict, report.status), ("not checked", status))
+
+    def of_signature(self, status, output):
+        """What is answered of a signature alone, where `picky` answers otherwise."""
+        file = STORED["three"].file()
+        return checked(file.octets, programs=Stub("picky", status, output), digest=file.file_hash.hex())
+
+    def test_a_signature_alone(self):
+        """`picky check`, which decides under --digest."""
+        for name in (*reasons.SIGNATURE, *reasons.CHAIN, "SomethingNew"):
+            report = self.of_signature(1, f"refused {name}\n")
+            self.assert_refused(report, name)
+            self.assertEqual((report.verdict, report.reason), ("refused", name))
+        for line in (CHAIN_LINE, "accepted parents=1", "accepted signer=1 path= excuse=none", "accepted signer=0 path= excuse=bag", ANCHOR_LINE,
+                     "accepted", "refused", f"accepted signer={'9' * 5000} path= excuse=none"):
+            report = self.of_signature(0, line + "\n")
+            self.assert_refused(report, line)
+            self.assertIn("the programs disagree", report.sentence)
+        for status in (2, 3, 4, 5, 6, 7):
+            self.assertEqual(self.of_signature(status, "").status, status)
+        self.assertEqual(self.of_signature(0, PE_LINE + "\n").verdict, "accepted")
+
+    def test_the_digest_of_another_file(self):
+        file = STORED["three"].file()
+        report = checked(file.octets, programs=Stub("picky", 0, PE_LINE + "\n"), digest="00" * 32)
+        self.assert_refused(report, "another digest")
+        self.assertIn("the programs disagree", report.sentence)
+
+    def test_long_numbers(self):
+        for program, line in ("picky_pe", "accepted signer={} path= excuse=none"), ("picky_anchor", "anchored pool= anchor={}"), ("picky_anchor", "anchored pool={} anchor=0"):
+            report = self.of(program, 0, line.format("9" * 5000) + "\n")
+            self.assert_refused(report, line)
+            self.assertIn("the programs disagree", report.sentence)
+
+    def test_the_questions(self):
+        """`picky_ask` asks about nothing, something else or too much: what isn't in the table counts as bad, and what is in excess as nothing."""
+        own = question_judge.of_file(signed_program.signature(STORED["three"].octets))[1]
+        other = question_judge.of_file(signed_program.signature(STORED["server"].octets))[1]
+        for status, output in (0, ""), (0, other), (1, "refused NotMz\n"):
+            report = self.of("picky_ask", status, output)
+            self.assert_refused(report, output[:80])
+            self.assertEqual((report.verdict, report.reason), ("refused", "SignatureError"))
+        # The signature counts, and no link.
+        self.assertEqual(self.of("picky_ask", 0, own.splitlines(True)[0] + other).reason, "InvalidCertificate:Signature")
+        for status, output in (0, own[:-1]), (0, PE_LINE + "\n"), (0, "\n"), (1, own), (1, ""), (9, ""):
+            report = self.of("picky_ask", status, output)
+            self.assert_refused(report, (status, output[:80]))
+            self.assertIn("the programs disagree", report.sentence)
+        for status in (2, 3, 4, 5, 6, 7):
+            report = self.of("picky_ask", status, "")
+            self.assertEqual((report.verdict, report.status), ("not checked", status))
+        # A question with the digests of one signature and the octets of another makes no table.
+        first, second = (one.splitlines()[0].split(" ") for one in (own, other))
+        mixed = " ".join([*first[:4], *second[4:]])
+        report = self.of("picky_ask", 0, mixed + "\n")
+        self.assertEqual((report.verdict, report.status), ("not checked", 2))
+
+    def test_openssl_finds_good_signatures_false(self):
+        entry = Signature(signed_program.signature(STORED["three"].octets))
+        link = "InvalidCertificate:Signature"
+        for message, reason in (None, "SignatureError"), (entry.certificates[2].parts.tbs, link), (entry.certificates[1].parts.tbs, link):
+            with patch.object(verdict_table, "is_accepted", lambda *asked: message is not None and asked[3] != message):
+                report = checked(STORED["three"].octets)
+            self.assert_refused(report, reason)
+            self.assertEqual((report.verdict, report.reason), ("refused", reason))
+            self.assertIsNone(report.root)
+
+    def test_openssl_cant_say(self):
+        def cant(*asked):
+            raise NotJudged("no reason")
+
+        with patch.object(verdict_table, "is_accepted", cant):
+            self.assert_refused(checked(STORED["three"].octets), "not judged")
+
+    def test_openssl_finds_all_true(self):
+        """Its verdict is trusted, and gives no more than that: digests, dates, names and usages count as before."""
+        octets = STORED["three"].octets
+        signature = Signature(signed_program.signature(octets)).signer.octets
+        with patch.object(verdict_table, "is_accepted", lambda *asked: True):
+            for label, one, at, reason in (
+                ("changed", changed(octets, 600), None, "FileHashMismatch"), ("expired", octets, "2041-01-01", "InvalidCertificate:CertificateExpired"),
+                ("alone", STORED["alone"].octets, None, "NoAnchoredPath"), ("server", STORED["server"].octets, None, "NoEKUCodeSigning"),
+                ("by other", STORED["by other"].octets, None, "InvalidCertificate:InvalidChain:AuthorityKeyIdMismatch"),
+            ):
+                report = checked(one, at=at)
+                self.assert_refused(report, label)
+                self.assertEqual(report.reason, reason, label)
+            self.assertEqual(checked(octets.replace(signature, changed(signature, 7))).verdict, "accepted")
 
     def test_the_reason_is_no_verdict(self):
         """`picky chain` explains a refusal, and can't make an acceptance of it."""
@@ -590,9 +666,169 @@ class TextTest(unittest.TestCase):
         self.assertEqual(text.common_name(self.named(("550406", "DE"), ("550403", "One"))), "One")
         self.assertEqual(text.name(b"\x30"), "?")
 
+    def test_no_moments(self):
+        """Only digits and a Z are a time; what else is in one isn't shown."""
+        for tag, octets in (
+            (0x17, b""), (0x17, b"Z"), (0x17, b"2306010000Z"), (0x17, b"230601000000"), (0x17, b"230601000000z"), (0x17, b"230601000000+0100"),
+            (0x17, b"20230601000000Z"), (0x17, b"\x1b[8m01000000Z"), (0x17, b"2306010\n0000Z"), (0x17, b"2306010000 0Z"), (0x17, b"230601000000Z\n"),
+            (0x18, b"230601000000Z"), (0x18, b"20230601000000"), (0x18, b"20230601000000.Z"), (0x18, b"20230601000000,5Z"),
+            (0x18, b"20230601000000.\x1b[8mZ"), (0x18, b"2023060100000\xb2Z"), (0x18, b"+0230601000000Z"), (0x18, b"2_230601000000Z"),
+            (0x04, b"20230601000000Z"),
+        ):
+            with self.assertRaises(Shape, msg=octets):
+                text.moment_of(Primitive(tag, octets))
+
     def test_moments(self):
         self.assertEqual(text.moment_of(Primitive(0x17, b"500101000000Z")), "1950-01-01T00:00:00")
         self.assertEqual(text.moment_of(Primitive(0x18, b"20230601123456.789Z")), "2023-06-01T12:34:56")
+
+
+class ShownTest(unittest.TestCase):
+    """What the signer and the stamp say is shown as what it is, whatever it is."""
+
+    def shown(self, octets):
+        """The report on a program whose signatures and stamps are bad: no line has a character that doesn't print."""
+        with patch.object(verdict_table, "is_accepted", lambda *asked: False), patch.object(stamps, "openssl", self.refuses):
+            report = checked(octets)
+        lines = list(report.lines())
+        json.dumps(report.json())
+        for line in lines:
+            self.assertTrue(line.isprintable(), line)
+        return report, "\n".join(lines)
+
+    @staticmethod
+    def refuses(*words, given=b""):
+        raise OpensslError("not verified", out="Verification: FAILED\n")
+
+    def test_description(self):
+        program = STORED["stamped"].octets
+        for one, name, link in (
+            (opus(), None, None), (opus(opus_name(b"A tool")), "A tool", None), (opus(opus_link(b"https://tool.example")), None, "https://tool.example"),
+            (opus(Constructed(0xA0, (Primitive(0x80, "Ünicode".encode("utf-16-be")),))), "Ünicode", None),
+            (opus(Constructed(0xA1, (Constructed(0xA2, (Primitive(ASCII, b"file"),)),))), None, "file"),
+            (opus(opus_name(b"A\x1b[8m\ntool")), r"A\1B[8m\0Atool", None),
+            # Fields that it hasn't got, and fields that aren't read.
+            (opus(Constructed(0xA2, (Primitive(ASCII, b"x"),)), opus_name(b"A tool")), "A tool", None), (opus(Primitive(0x80, b"x")), None, None),
+            (opus(Primitive(0x81, b"x"), Primitive(2, b"\1"), opus_link(b"a")), None, "a"), (opus(Constructed(0xA0, ())), None, None),
+            (opus(Constructed(0xA0, (Constructed(0x30, ()),))), None, None), (opus(opus_name(b"A tool"), Constructed(0xA1, ())), "A tool", None),
+            (opus()._replace(kids=(opus().kids[0], Constructed(0x31, (Primitive(4, b"x"),)))), None, None),
+        ):
+            report, _ = self.shown(with_attribute(program, SIGNED, one))
+            self.assertEqual((report.verdict, report.description), ("refused", {"name": name, "link": link}), one)
+        self.assertIn("A tool, https://tool.example (said by the signer)", self.shown(described(program))[1])
+
+    def test_a_token_without_a_time(self):
+        program, time = STORED["stamped"].octets, b"\x18\x0f20230601000000Z"
+        self.assertEqual(program.count(time), 1)
+        report, _ = self.shown(program.replace(time, b"\x17" + time[1:]))
+        self.assertEqual([(one["kind"], one["time"], one["verified"], one["why"]) for one in report.stamps], [("RFC 3161", None, False, "it names no time")])
+
+    def test_times_of_tokens(self):
+        program, time = STORED["stamped"].octets, b"20230601000000Z"
+        for other in b"\x1b[8m0601000000Z", b"2023060100\n000Z", b"2023060100000ZZ", b"202306010000.5Z", b"\x1b[2J\x1b[H\r\nokayZZ":
+            report, _ = self.shown(program.replace(time, other))
+            self.assertEqual([(one["time"], one["verified"], one["why"]) for one in report.stamps], [(None, False, "it can't be read")], other)
+        report, _ = self.shown(program.replace(time, b"20239901000000Z"))
+        self.assertEqual(report.stamps[0]["why"], "its time doesn't exist")
+
+    def test_times_of_signers(self):
+        program = STORED["stamped"].octets
+        for time in Primitive(0x17, b"\x1b[8m28065147Z"), Primitive(0x18, b"2023\n0601000000Z"), Primitive(4, b"2023"), Constructed(0x30, ()):
+            report, lines = self.shown(with_attribute(program, SIGNED, attribute(SIGNING_TIME, time)))
+            self.assertIsNone(report.stated_time)
+            self.assertNotIn("signed at", lines)
+        report, lines = self.shown(with_attribute(program, SIGNED, attribute(SIGNING_TIME, Primitive(0x17, b"230601000000Z"))))
+        self.assertIn("signed at    2023-06-01 00:00:00 UTC (said by the signer", lines)
+
+    def test_lines_of_any_text(self):
+        report = Report("a\x1b[8m\nfile").refuse("a \x1b sentence\n", "then\r")
+        report.notes, report.stated_time = ["x" * 1000 + "\x1b"], "2023-\x1b[8m"
+        report.stamps = [stamps.Verified(stamp("\n\x1b"), False, "\x07").shown(False)]
+        for line in report.lines():
+            self.assertTrue(line.isprintable(), line)
+        self.assertTrue(any("x" * 1000 in line for line in report.lines()))
+
+    @unittest.skipUnless(which("openssl"), "openssl isn't there")
+    def test_damaged_stamps_beside_a_good_one(self):
+        program = STORED["stamped"].octets
+        bad = attribute(COUNTERSIGNATURE, *[Primitive(4, b"")] * 20)
+        report = checked(with_attribute(program, UNSIGNED, bad), now=StampTest.LATER)
+        self.assertEqual((report.stamps[0]["verified"], report.date["source"], len(report.stamps)), (True, "the time of the stamp", MOST_STAMPS))
+        self.assertIn("the signature has more time stamps", "".join(report.notes))
+
+
+class NamesakesTest(unittest.TestCase):
+    """Many certificates of one name cost little, and the answer says what isn't looked at."""
+
+    def test_pool(self):
+        """Some thousand certificates in a time that grows as they do."""
+        signature = Signature(signed_program.signature(STORED["three"].octets))
+        root, authority, publisher = signature.certificates
+        one = read_exact(authority.der)
+        others = [Certificate(write(each)) for each in namesakes(one, 1000)]
+        begun = process_time()
+        pool, cut = anchors.pool_of([root, *others * 3, authority, publisher], publisher)
+        self.assertLess(process_time() - begun, 1)
+        self.assertEqual((len(pool), cut), (anchors.MOST_POOL, True))
+        self.assertEqual(pool, others[:anchors.MOST_POOL])
+        for line in permutations(signature.certificates):
+            self.assertEqual(anchors.pool_of(line * 2, publisher), ([each for each in line if each != publisher], False))
+        # What names don't lead to isn't there, and 32 aren't too many.
+        self.assertEqual(anchors.pool_of([publisher, root], publisher), ([], False))
+        self.assertEqual(anchors.pool_of(others[:anchors.MOST_POOL], publisher), (others[:anchors.MOST_POOL], False))
+
+    def check_with(self, change, openssl_finds):
+        """The report on a program with other certificates, and how many calls there were of each program and of openssl."""
+        programs, asked = StandIn(), []
+
+        def verified(*words):
+            asked.append(words)
+            return openssl_finds(words[3])
+
+        with patch.object(verdict_table, "is_accepted", verified):
+            report = checked(with_certificates(STORED["three"].octets, change), programs=programs)
+        return report, Counter(program for program, _ in programs.asked), len(asked)
+
+    def test_calls(self):
+        """300 roots of one name: 32 of them are looked at, in 100 pairs at most."""
+        known = {one.parts.tbs for one in Signature(signed_program.signature(STORED["three"].octets)).certificates}
+        report, called, verified = self.check_with(
+            lambda held: [*held[1:], *namesakes(held[0], 300)], lambda message: message in known or message[:1] == b"\x31")
+        self.assertEqual((report.verdict, report.root["file"]), ("accepted", "root.der"))
+        self.assertLessEqual(called["picky_ask"], 1 + asking.MOST_PAIRS)
+        self.assertLessEqual(verified, 2 * asking.MOST_PAIRS)
+        said = "\n".join(report.notes)
+        for note in notes.PAIRS.format(asking.MOST_PAIRS), notes.POOL.format(anchors.MOST_POOL):
+            self.assertIn(note, said)
+
+    def test_few(self):
+        """A chain has neither note."""
+        report, called, _ = self.check_with(list, lambda message: True)
+        self.assertEqual((report.verdict, called["picky_ask"]), ("accepted", 4))
+        self.assertFalse([note for note in report.notes if "first" in note])
+
+
+@unittest.skipUnless(which("openssl"), "openssl isn't there")
+class EncodingTest(unittest.TestCase):
+    """Output in an encoding without the letters of a name."""
+
+    def test_encodings(self):
+        octets = STORED["three"].octets.replace(b"Publisher", "Публx".encode())
+        self.assertEqual(len(octets), len(STORED["three"].octets))
+        script = Path(__file__).resolve().parents[1] / "check_program.py"
+        with TemporaryDirectory() as folder:
+            program, root = Path(folder, "a.exe"), Path(folder, "root.der")
+            program.write_bytes(octets)
+            root.write_bytes(signed_programs.root())
+            for name, line in ("picky_ask", ""), ("picky_pe", "refused SignatureError"), ("picky_anchor", "refused NoAnchoredPath"), ("picky", "refused Signature"):
+                file = Path(folder, name)
+                file.write_text(f"#!/bin/sh\n{f'echo {line}; exit 1' if line else ''}\n")
+                file.chmod(0o755)
+            for encoding, shown in ("ascii", r"CN=\u041f\u0443\u0431\u043bx"), ("latin-1", r"CN=\u041f\u0443\u0431\u043bx"), ("utf-8", "CN=Публx"):
+                done = subprocess.run([sys.executable, script, program, "--root", root, "--programs", folder, "--at", "2023-06-15"],
+                                      env=os.environ | {"PYTHONIOENCODING": encoding}, capture_output=True)
+                self.assertEqual((done.returncode, done.stderr), (1, b""), encoding)
+                self.assertIn(f"signer       {shown} ", done.stdout.decode(encoding))
 
 
 class DamagedProgramsTest(unittest.TestCase):
