@@ -14,7 +14,7 @@ reference implementations in place of the programs.  Any exception is a differen
 the octets of the file, and makes the exit status 1.
 
 The files are signatures of the repository and of openssl and osslsigncode, with their
-programs where a program is asked for, one of them with a name and an address added, and certificates in DER, each with one that is
+programs where a program is asked for, for `check_program` one more with a name and an address, and certificates in DER, each with one that is
 whole.  In half of them elements are left out, repeated, exchanged, changed or
 get another tag, with right lengths around them.  In the others octets are changed, left
 out, put in or repeated, the rest is cut off, or a tag or a length is another, one to four
@@ -87,11 +87,14 @@ def signatures():
 
 
 def programs():
-    """Those that are stored, and one with a name and an address of its signer's and a token, which osslsigncode doesn't sign here."""
-    stored = signed_programs.stored()
-    for one in stored.values():
+    for one in signed_programs.stored().values():
         yield "program", one.octets
-    yield "program", described(stored["stamped"].octets)
+
+
+def shown_programs():
+    """The same, and one in which the signer gives a name and an address, which no stored one has."""
+    yield from programs()
+    yield "program", described(signed_programs.stored()["stamped"].octets)
 
 
 # Damage.
@@ -243,7 +246,7 @@ def in_place_of_openssl(*words, given=b""):
 
 def files(chance, tool, count):
     """So many files, each with another that is whole where certificates are asked for."""
-    both = {verdict_table: [*signatures(), *certificates()], order_bag: list(signatures()), signed_program: list(programs()), check_program: list(programs())}[tool]
+    both = {verdict_table: [*signatures(), *certificates()], order_bag: list(signatures()), signed_program: list(programs()), check_program: list(shown_programs())}[tool]
     for _ in range(count):
         kind, base = chance.choice(both)
         other = signed_programs.root() if tool is check_program else base if kind == "der" else None

@@ -298,7 +298,7 @@ class DisagreementTest(unittest.TestCase):
         """`picky_ask` asks about nothing, something else or too much: what isn't in the table counts as bad, and what is in excess as nothing."""
         own = question_judge.of_file(signed_program.signature(STORED["three"].octets))[1]
         other = question_judge.of_file(signed_program.signature(STORED["server"].octets))[1]
-        for status, output in (0, ""), (0, other), (1, "refused NotMz\n"):
+        for status, output in (0, ""), (0, other), *((1, f"refused {name}\n") for name in ("NotMz", "SomethingNew", *reasons.SIGNATURE, *reasons.CHAIN)):
             report = self.of("picky_ask", status, output)
             self.assert_refused(report, output[:80])
             self.assertEqual((report.verdict, report.reason), ("refused", "SignatureError"))
