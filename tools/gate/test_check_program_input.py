@@ -117,13 +117,15 @@ class NamesakesTest(unittest.TestCase):
         """Some thousand certificates in a time that grows as they do."""
         signature = Signature(signed_program.signature(STORED["three"].octets))
         root, authority, publisher = signature.certificates
-        one = read_exact(authority.der)
-        others = [Certificate(write(each)) for each in namesakes(one, 1000)]
-        begun = process_time()
-        pool, cut = anchors.pool_of([root, *others * 3, authority, publisher], publisher)
-        self.assertLess(process_time() - begun, 1)
-        self.assertEqual((len(pool), cut), (anchors.MOST_POOL, True))
-        self.assertEqual(pool, others[:anchors.MOST_POOL])
+        others, roots = ([Certificate(write(each)) for each in namesakes(read_exact(one.der), 1000)] for one in (authority, root))
+        # Issuers of the signer's certificate, and roots, each of which has the name of the issuer of all.
+        for held, expected in (
+            ([root, *others * 3, authority, publisher], others[:anchors.MOST_POOL]),
+            ([*roots * 3, authority, publisher], [*roots[:anchors.MOST_POOL - 1], authority]),
+        ):
+            begun = process_time()
+            self.assertEqual(anchors.pool_of(held, publisher), (expected, True))
+            self.assertLess(process_time() - begun, 1)
         for line in permutations(signature.certificates):
             self.assertEqual(anchors.pool_of(line * 2, publisher), ([each for each in line if each != publisher], False))
         # What names don't lead to isn't there, and 32 aren't too many.
