@@ -1,5 +1,5 @@
 -- The certificates that the iterator walks to are those of the ancestors.
-use Rattle.std.proofs.Common.{◌≡◌, ◌<◌, ◌≤◌, ℕ, zero, suc, List, [], ◌∷◌, length, Option, Some, None, refl, sym, ap, subst, ◌∙◌, arith}
+use Rattle.std.proofs.Common.{◌≡◌, ◌≤◌, ℕ, zero, suc, List, [], ◌∷◌, length, Option, Some, None, refl, sym, ap, subst, ◌∙◌, arith}
 use Rattle.std.specs.List.{slice_get}
 use Rattle.x509_core.specs.History.{AreAncestors, IsOrdered, IssuingStep}
 use Rattle.x509_core.specs.Issued.{AreCertsAt, HasCert}

@@ -1,5 +1,5 @@
 -- There is one answer for the lines of a register, and a report of it is the only one.
-use Rattle.std.proofs.Common.{◌≡◌, ◌≢◌, ◌⊎◌, ℕ, ◌+◌, ◌≤◌, List, [], ◌∷◌, length, Result, Ok, Err, IfOk, IfErr, MatchResult, inl, inr, refl, sym, ap, subst, ◌∙◌, arith}
+use Rattle.std.proofs.Common.{◌≡◌, ◌⊎◌, ℕ, ◌+◌, List, [], ◌∷◌, length, Result, Ok, Err, IfOk, inl, inr, refl, sym, ap, subst, ◌∙◌, arith}
 use Rattle.std.proofs.Math.Logic.{∥∥₁_map}
 use Rattle.std.specs.Prelude.{string_bytes}
 use Rattle.std.proofs.lemmas.List.{length-map}
@@ -10,16 +10,14 @@ use Rattle.program_frame.specs.declared.report.Report.{Report}
 use Rattle.program_frame.specs.declared.stop.Stop.{Stop}
 use Rattle.program_frame.specs.declared.stop.Stop.TheVariants as stop
 use Rattle.program_frame.specs.Ending.{Ends}
-use Rattle.program_frame.specs.Inquiry.{GivesLine, GivesStop, StopsForText, line_of}
 use Rattle.program_frame.specs.Limits.{IsWholeFile}
-use Rattle.program_frame.specs.Question.{Line as ReportLine}
 use Rattle.program_frame.specs.ReadFiles.{AreRead, HandsOut, total_length}
 use Rattle.program_frame.specs.Shelf.{ShelfState}
 use Rattle.program_frame.specs.Sink.{Appends, IsCutShort, SinkState}
-use Rattle.register_text.specs.Lines.{HasBadLine, IsRegisterText, Line}
+use Rattle.register_text.specs.Lines.{IsRegisterText, Line}
 use Rattle.sig_core.specs.DemoScheme.{demo_verdict}
 use Rattle.x509_core.specs.KeptCertificate.{KeptCertificate}
-use Rattle.ca_register.specs.Answer.{AreCounted, IsAnswerLine, IsAnswerTo, report_line, status_of, text_in}
+use Rattle.ca_register.specs.Answer.{IsAnswerTo}
 use Rattle.ca_register.specs.Authorities.{IsRegister}
 use Rattle.ca_register.specs.Counting.{IsAcceptedAt, IsCount, IsUsableAt}
 use Rattle.ca_register.specs.Filling.{IsFilled}
@@ -33,7 +31,7 @@ use Rattle.ca_register.specs.declared.error.IssueError.TheVariants as errors
 use Rattle.ca_register.specs.declared.report.Answer.{Answer}
 use Rattle.ca_register.specs.declared.report.Answer.TheVariants.{Counted, NoIssuer, NotCa, TooDeep}
 use Rattle.ca_register.proofs.Counts.{count_once}
-use Rattle.ca_register.proofs.FirstRefusals.{IsRecorded, first_recorded, none_refused, one_refusal}
+use Rattle.ca_register.proofs.FirstRefusals.{none_refused, one_refusal}
 
 -- ---- one answer
 
@@ -73,28 +71,12 @@ module _ (date : GeneralizedTime) (lines : List Line) where
 
   -- ---- reports
 
-  -- without a report memory ran out
-  pub memory_reports : (s : Stop) → s ≡ stop.Memory → Reports (IsAnswerTo date lines) (Err s)
-  memory_reports s is = record { reported = tt; stopped = is; only = λ other also. is }
-
   pub answer_reports : (answer : Answer) (report : Report) → IsAnswerTo date lines answer → IsReportOf answer report → Reports (IsAnswerTo date lines) (Ok report)
   answer_reports answer report is h = record {
     reported = (answer, is, h);
     stopped = tt;
     only = λ other also. subst (λ (a : Answer). IsReportOf a report) (one_answer answer other is also) h;
   }
-
-  -- an acceptance is a count
-  pub counts : (answer : Answer) (report : Report) → IsAnswerTo date lines answer → IsReportOf answer report
-      → ((issued accepted : ℕ) → answer ≡ Counted issued accepted → ∥ AreIssued date lines accepted ∥₁) → report.status ≡ 0 → IsCountLine date lines (string_bytes report.line)
-  counts (Counted issued accepted) report is h made zero = record {
-    accepted = accepted;
-    issued = made issued accepted refl;
-    is = h.line ∙ ap (λ (n : ℕ). report_line (Counted n accepted)) is.all;
-  }
-  counts NoIssuer report is h made zero = absurd (omega (arith, h.status, zero))
-  counts NotCa report is h made zero = absurd (omega (arith, h.status, zero))
-  counts TooDeep report is h made zero = absurd (omega (arith, h.status, zero))
 
 -- ---- what was issued
 
@@ -116,62 +98,7 @@ issued_count date lines entries certificates filled kept len number issued accep
           (subst (λ (n : ℕ). IsCount (IsAcceptedAt demo_verdict entries certificates date) n accepted) many counted);
     })
 
--- ---- the text
-
-low_status : (answer : Answer) → status_of answer ≤ 1
-low_status (Counted issued accepted) = omega arith
-low_status NoIssuer = omega arith
-low_status NotCa = omega arith
-low_status TooDeep = omega arith
-
--- a report of an answer has the line that reports it
-gives_line : (answer : Answer) (line : ReportLine) (result : Result Report Stop) → line.status ≡ status_of answer → line.text ≡ report_line answer
-    → IsReported answer result → GivesLine line result
-gives_line answer line (Ok report) status text h =
-    let same_status : report.status ≡ line.status = h.status ∙ sym status in
-    let same_text : string_bytes report.line ≡ line.text = h.line ∙ sym text in
-    λ i. record { status = same_status i; text = same_text i }
-gives_line answer line (Err s) status text h = h
-
-module _ (job : Job) (text : List ℕ) (lines : List Line) (is : IsRegisterText text lines) where
-  pub reports_answer : (result : Result Report Stop) → Reports (IsAnswerTo job.date lines) result → IfOk result (λ report. IsAnswerLine job (text ∷ []) (line_of report))
-  reports_answer (Ok report) h =
-      let of = h.reported in
-      record { lines = lines; is_text = is; answer = of.0; is_answer = of.1; status = of.2.status; text = of.2.line }
-  reports_answer (Err s) h = tt
-
-  pub reports_low : (result : Result Report Stop) → Reports (IsAnswerTo job.date lines) result → IfOk result (λ report. report.status ≤ 1)
-  reports_low (Ok report) h = let of = h.reported in omega (arith, of.2.status, low_status of.0)
-  reports_low (Err s) h = tt
-
-  pub reports_stopped : (result : Result Report Stop) → Reports (IsAnswerTo job.date lines) result → IfErr result (StopsForText (HasBadLine text))
-  reports_stopped (Ok report) h = tt
-  reports_stopped (Err s) h = subst (StopsForText (HasBadLine text)) (sym h.stopped) tt
-
-  pub reports_only : (result : Result Report Stop) → Reports (IsAnswerTo job.date lines) result → ((other : List Line) → IsRegisterText text other → lines ≡ other) → (line : ReportLine) → IsAnswerLine job (text ∷ []) line → GivesLine line result
-  reports_only result h once line answer =
-      gives_line answer.answer line result answer.status answer.text
-      (h.only answer.answer (subst (λ (ls : List Line). IsAnswerTo job.date ls answer.answer) (sym (once answer.lines answer.is_text)) answer.is_answer))
-
 -- ---- the file
-
--- a text that isn't read
-pub unread_only : (job : Job) (text : List ℕ) (s : Stop) → ((lines : List Line) → IsRegisterText text lines → s ≡ stop.Memory) → (line : ReportLine) → IsAnswerLine job (text ∷ []) line → GivesLine line (Err s)
-unread_only job text s only line answer = only answer.lines answer.is_text
-
-bad_or_memory : (HasBad : Type 0) (s : Stop) → StopsForText HasBad s → (s ≡ stop.BadTable) ⊎ (s ≡ stop.Memory)
-bad_or_memory HasBad stop.BadTable h = inl refl
-bad_or_memory HasBad stop.Memory h = inr refl
-bad_or_memory HasBad stop.Usage h = absurd h
-bad_or_memory HasBad stop.Shelf h = absurd h
-bad_or_memory HasBad stop.TooLong h = absurd h
-
-pub gives_stop : (HasBad : Type 0) (s : Stop) → StopsForText HasBad s → GivesStop stop.BadTable (Err s)
-gives_stop HasBad s h = by (bad_or_memory HasBad s h)
-  where
-    by : (s ≡ stop.BadTable) ⊎ (s ≡ stop.Memory) → GivesStop stop.BadTable (Err s)
-    by (inl bad) = inl (ap Err bad)
-    by (inr memory) = inr (ap Err memory)
 
 module _ (shelf shelf_now : ShelfState) (words : List (List ℕ)) (job : Job) (asked : AsksFor words job) (text : List ℕ) (file : IsWholeFile shelf.files job.file text) (given : HandsOut (length text) shelf shelf_now) where
   pub counts_for : (result : Result Report Stop)

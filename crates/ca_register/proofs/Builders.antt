@@ -1,9 +1,9 @@
 -- The builders of a register's certificates, and what is refused by the steps.
-use Rattle.std.proofs.Common.{◌≡◌, ◌⊎◌, ℕ, Bool, true, false, List, [], ◌∷◌, ◌++◌, Option, Some, None, Result, Ok, Err, IfOk, MatchResult, inl, inr, refl, sym, ap, subst, ◌∙◌}
+use Rattle.std.proofs.Common.{◌≡◌, ℕ, Bool, true, false, List, [], ◌∷◌, ◌++◌, Option, Some, None, Result, Ok, Err, IfOk, MatchResult, inl, inr, refl, sym, ap, subst, ◌∙◌}
 use Rattle.std.specs.Borrow.{Bor}
 use Rattle.der_core.specs.Refusals.{Wraps}
 use Rattle.der_core.specs.Rules.{IsFirstBroken, OrMemory}
-use Rattle.der_core.specs.Steps.{AreTaken, IsFirstUntaken, RefusesBySteps, Step}
+use Rattle.der_core.specs.Steps.{AreTaken, RefusesBySteps, Step}
 use Rattle.key_types.specs.declared.key_info.SubjectPublicKeyInfo.{SubjectPublicKeyInfo}
 use Rattle.key_types.specs.declared.algorithm.AlgorithmIdentifier.{AlgorithmIdentifier}
 use Rattle.key_core.specs.SignatureAlgorithm.{NamesSignature}
@@ -30,7 +30,7 @@ use Rattle.x509_issuing.specs.declared.builder.CertificateBuilder.{CertificateBu
 use Rattle.x509_issuing.specs.declared.builder.SubjectInfos.{SubjectInfos}
 use Rattle.ca_register.specs.Entries.{step_of}
 use Rattle.ca_register.specs.Granting.{IsChildBuilder, IsFor, IsGranted, IsRootBuilder}
-use Rattle.ca_register.specs.Issuing.{IsBuiltBy, IsBuiltUnder, IsIssuedCert, build_step, key_step, root_build_step, signed_steps}
+use Rattle.ca_register.specs.Issuing.{IsBuiltUnder, IsIssuedCert, root_build_step, signed_steps}
 use Rattle.ca_register.specs.Refusals.{unbuilt, wrong_key}
 use Rattle.ca_register.specs.declared.entry.Grant.{Grant}
 use Rattle.ca_register.specs.declared.error.IssueError.{IssueError}

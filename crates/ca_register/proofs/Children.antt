@@ -1,6 +1,6 @@
 -- A built certificate whose signature is one by the key of its issuer's certificate is recorded as
 -- granted, and certified by that certificate.
-use Rattle.std.proofs.Common.{◌≡◌, ◌↔◌, ℕ, Bool, true, false, List, Option, Some, None, Result, refl, sym, ap, subst, ◌∙◌}
+use Rattle.std.proofs.Common.{◌≡◌, ℕ, Bool, false, List, Option, Some, refl, sym, ap, subst, ◌∙◌}
 use Rattle.asn1_types.specs.declared.generalized_time.GeneralizedTime.{GeneralizedTime}
 use Rattle.asn1_types.specs.declared.oids.TheConstants.{CE_BASIC_CONSTRAINTS}
 use Rattle.asn1_types.specs.Values.{identifier_contents}
@@ -13,7 +13,6 @@ use Rattle.key_core.specs.Signing.{Pair, Signs, arithmetic}
 use Rattle.key_core.specs.Verifying.{Judge, verify_rules}
 use Rattle.key_core.specs.declared.private_key.PrivateKey.{PrivateKey}
 use Rattle.key_core.specs.declared.signature_algorithm.SignatureAlgorithm.{SignatureAlgorithm}
-use Rattle.key_core.specs.declared.signature_error.SignatureError.{SignatureError}
 use Rattle.key_core.proofs.SignatureIdentifiers.{same_algorithm}
 use Rattle.key_core.proofs.Verifications.{accepted_is_met}
 use Rattle.name_types.specs.Name.{name}
@@ -22,7 +21,6 @@ use Rattle.x509_types.specs.CertificateElements.{AreCertificateFields, Certifica
 use Rattle.x509_types.specs.CertificateFields.{kid}
 use Rattle.x509_types.specs.ExtensionParts.{HasAuthorityKey, HasCa, HasPathLength, HasSubjectKey}
 use Rattle.x509_types.specs.FirstOfValue.{extensions_in}
-use Rattle.x509_types.specs.declared.extension.Extension.{Extension}
 use Rattle.x509_types.specs.declared.extension.view.ExtensionView.TheVariants as views
 use Rattle.std.proofs.Math.Logic.{∥∥₁_elim}
 use Rattle.std.specs.Borrow.{Bor}

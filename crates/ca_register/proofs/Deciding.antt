@@ -1,5 +1,5 @@
 -- What the validator says of a certificate of a register is decided by the entries.
-use Rattle.std.proofs.Common.{◌≡◌, ◌≢◌, ℕ, List, Option, Some, Result, Ok, Err, MatchResult, inl, inr}
+use Rattle.std.proofs.Common.{◌≢◌, ℕ, List, Some, Result, Ok, Err, MatchResult, inl, inr}
 use Rattle.std.proofs.Math.Logic.{∥∥₁_elim}
 use Rattle.asn1_types.specs.declared.generalized_time.GeneralizedTime.{GeneralizedTime}
 use Rattle.key_core.specs.Verifying.{Judge}

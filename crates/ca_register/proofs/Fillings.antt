@@ -1,11 +1,11 @@
 -- A register after one line more, and what refuses a line.
 use Rattle.std.proofs.Common.{◌≡◌, ◌≢◌, ◌<◌, ◌≤◌, ◌⊎◌, ℕ, zero, suc, ◌+◌, false, List, [], ◌∷◌, ◌++◌, length, take, drop, map, slice_index_or, Option, Some, None, option_map, Result, Ok, Err, IfOk, IfErr, MatchResult, inl, inr, refl, sym, ap, subst, ◌∙◌, arith}
 use Rattle.std.specs.List.{AllByRecursion, slice_get}
-use Rattle.std.proofs.lemmas.List.{length-append, length-map, take_all}
+use Rattle.std.proofs.lemmas.List.{length-append, length-map}
 use Rattle.std.proofs.lemmas.Option.{slice_get-map, slice_get_read, slice_get_within}
 use Rattle.asn1_types.specs.Integer.{IsUnsignedInteger}
 use Rattle.asn1_types.specs.Values.{integer_contents}
-use Rattle.der_core.specs.Steps.{AreTaken, IsFirstUntaken, RefusesBySteps, Step}
+use Rattle.der_core.specs.Steps.{AreTaken, IsFirstUntaken, RefusesBySteps}
 use Rattle.key_core.specs.Keys.{info_of}
 use Rattle.key_core.specs.PrivatePkcs1.{IsPrivatePkcs1}
 use Rattle.key_core.specs.Signing.{IsKeyPair}
@@ -26,13 +26,12 @@ use Rattle.x509_core.specs.declared.error.CertError.TheVariants as cert_errors
 use Rattle.x509_core.proofs.Chains.{map_more}
 use Rattle.x509_core.proofs.GrowingHistories.{IsOldOrNew, old_or_new}
 use Rattle.x509_core.proofs.Validity.{same_some}
-use Rattle.x509_issuing.specs.Building.{build_steps}
 use Rattle.x509_issuing.specs.declared.builder.CertificateBuilder.{CertificateBuilder}
 use Rattle.x509_issuing.specs.declared.builder.SubjectInfos.TheVariants as subjects
 use Rattle.ca_register.specs.Filling.{IsFilled, IsKeyAt}
 use Rattle.ca_register.specs.Granting.{IsChildBuilder, IsRootBuilder}
 use Rattle.ca_register.specs.Issuing.{Adds, IsBuiltBy, IsIssuedCert, child_steps, record_steps, root_step, root_steps, signed_steps}
-use Rattle.ca_register.specs.LineCertificates.{AreForLines, IsAtPlace, IsForLine, common_name}
+use Rattle.ca_register.specs.LineCertificates.{AreForLines, IsAtIndex, IsForLine, common_name}
 use Rattle.ca_register.specs.LineEntries.{AreIssuable, IsFirstRefused, IsIssuable, entries_of, entry_of, grant_of, steps_after}
 use Rattle.ca_register.specs.LineKeys.{AreLineKeys, key_secret}
 use Rattle.ca_register.specs.Refusals.{unbuilt, wrong_key}
@@ -46,7 +45,7 @@ use Rattle.ca_register.proofs.LineBuilders.{child_set, root_set}
 use Rattle.ca_register.proofs.LineBuilds.{built_for, numbered, untaken_for_memory}
 use Rattle.ca_register.proofs.LineSubjects.{pairs}
 
--- ---- a list cut at a place
+-- ---- a list cut at an index
 
 pub cut_at : {A : Type 0} (items : List A) (place : ℕ) (item : A) → slice_get items place ≡ Some item → items ≡ take place items ++ item ∷ drop (suc place) items
 cut_at [] place item e = absurd cc
@@ -95,15 +94,15 @@ all_issuable lines line issuable next ahead behind other are = by (where_first l
         absurd (omega (arith, whole, ahead_is, length-append lines (line ∷ []), length-append ahead (other ∷ behind), length-append lines (line ∷ longer.between)))
     by (inr (inr within)) = issuable ahead within.between other within.is
 
-all_for : (lines : List Line) (certificates : List KeptCertificate) (line : Line) (cert : KeptCertificate) → length certificates ≡ length lines → AreForLines lines certificates → IsAtPlace (length lines) line cert
+all_for : (lines : List Line) (certificates : List KeptCertificate) (line : Line) (cert : KeptCertificate) → length certificates ≡ length lines → AreForLines lines certificates → IsAtIndex (length lines) line cert
     → AreForLines (lines ++ line ∷ []) (certificates ++ cert ∷ [])
 all_for lines certificates line cert all each for place other found at has = by (old_or_new lines line place other at) (old_or_new certificates cert place found has)
   where
-    by : IsOldOrNew lines line place other → IsOldOrNew certificates cert place found → IsAtPlace place other found
+    by : IsOldOrNew lines line place other → IsOldOrNew certificates cert place found → IsAtIndex place other found
     by (inl old) (inl kept) = each place other found old kept
     by (inl old) (inr (here, same)) = absurd (omega (arith, slice_get_within lines place other old, here, all))
     by (inr (here, same)) (inl kept) = absurd (omega (arith, slice_get_within certificates place found kept, here, all))
-    by (inr (here, same)) (inr (there, also)) = subst (λ (c : KeptCertificate). IsAtPlace place other c) (sym also) (subst (λ (l : Line). IsAtPlace place l cert) (sym same) (subst (λ (n : ℕ). IsAtPlace n line cert) (sym here) for))
+    by (inr (here, same)) (inr (there, also)) = subst (λ (c : KeptCertificate). IsAtIndex place other c) (sym also) (subst (λ (l : Line). IsAtIndex place l cert) (sym same) (subst (λ (n : ℕ). IsAtIndex n line cert) (sym here) for))
 
 entries_more : (lines : List Line) (line : Line) → entries_of (lines ++ line ∷ []) ≡ entries_of lines ++ entry_of line ∷ []
 entries_more lines line = map_more entry_of lines line
@@ -111,7 +110,7 @@ entries_more lines line = map_more entry_of lines line
 entry_is : (line : Line) (issuer : Option ℕ) (grant : Grant) → line.issuer ≡ issuer → grant ≡ grant_of line → ◌≡◌ {A = Entry} (record { issuer = issuer; grant = grant }) (entry_of line)
 entry_is line issuer grant by same = λ i. record { issuer = sym by i; grant = same i }
 
--- the lines up to a place, and the register that was filled with them
+-- the lines up to an index, and the register that was filled with them
 module _ (lines : List Line) (place : ℕ) (line : Line) (at : slice_get lines place ≡ Some line) (entries : List Entry) (certificates : List KeptCertificate) (filled : IsFilled (take place lines) entries certificates) where
   abbrev Ahead : List Line
   Ahead = take place lines
@@ -123,7 +122,7 @@ module _ (lines : List Line) (place : ℕ) (line : Line) (at : slice_get lines p
 
   pub next_filled : (issuer : Option ℕ) (grant : Grant) (IsCert : KeptCertificate → Type 0) (more : List Entry) (longer : List KeptCertificate) (at_place next : ℕ) → next ≡ suc place → length certificates ≡ length entries
       → line.issuer ≡ issuer → grant ≡ grant_of line → Adds (record { issuer = issuer; grant = grant }) IsCert entries more certificates longer at_place
-      → ((cert : KeptCertificate) → IsCert cert → IsAtPlace place line cert) → AreTaken (steps_after entries issuer grant) → IsFilled (take next lines) more longer
+      → ((cert : KeptCertificate) → IsCert cert → IsAtIndex place line cert) → AreTaken (steps_after entries issuer grant) → IsFilled (take next lines) more longer
   next_filled issuer grant IsCert more longer at_place next is_next all by same added for taken =
       let begins = ap (λ (n : ℕ). take n lines) is_next ∙ one_later lines place line at in
       let steps = subst (λ (o : Option ℕ). AreTaken (steps_after entries o grant)) (sym by) taken in
@@ -135,7 +134,7 @@ module _ (lines : List Line) (place : ℕ) (line : Line) (at : slice_get lines p
         recorded = added.recorded ∙ ap (λ (es : List Entry). es ++ record { issuer = issuer; grant = grant } ∷ []) filled.recorded
             ∙ ap (λ (e : Entry). entries_of Ahead ++ e ∷ []) (entry_is line issuer grant by same) ∙ sym (entries_more Ahead line);
         issuable = all_issuable Ahead line filled.issuable issuable;
-        each = subst (λ (cs : List KeptCertificate). AreForLines (Ahead ++ line ∷ []) cs) (sym added.kept) (all_for Ahead certificates line added.cert many filled.each (subst (λ (n : ℕ). IsAtPlace n line added.cert) (sym ahead_is) (for added.cert added.is)));
+        each = subst (λ (cs : List KeptCertificate). AreForLines (Ahead ++ line ∷ []) cs) (sym added.kept) (all_for Ahead certificates line added.cert many filled.each (subst (λ (n : ℕ). IsAtIndex n line added.cert) (sym ahead_is) (for added.cert added.is)));
       })
 
   pub first_refused : (issuer : Option ℕ) (grant : Grant) (e : IssueError) → line.issuer ≡ issuer → grant ≡ grant_of line → IsFirstUntaken (steps_after entries issuer grant) e → IsFirstRefused lines e
@@ -178,7 +177,7 @@ module _ (line : Line) (short : length line.name ≤ 64) (place word : ℕ) (wor
         absurd (other (unbuilt_memory source e same (untaken_for_memory line line b is.issuer (root_set grant given key line b is named private) word small short short source untaken)))
     root_refused e (inl (inr (taken, inr (built, none)))) other = absurd none
 
-    pub root_for : (cert : KeptCertificate) → IsBuiltBy demo_scheme word (IsRootBuilder grant given key) cert → IsAtPlace place line cert
+    pub root_for : (cert : KeptCertificate) → IsBuiltBy demo_scheme word (IsRootBuilder grant given key) cert → IsAtIndex place line cert
     root_for cert by = record {
       for = built_for line line by.builder by.is.issuer (root_set grant given key line by.builder by.is named private) word cert by.built;
       numbered = subst (λ (n : ℕ). IsUnsignedInteger n (integer_contents cert.certificate.tbs_certificate.serial_number)) word_is
@@ -229,7 +228,7 @@ module _ (line : Line) (short : length line.name ≤ 64) (place word : ℕ) (wor
     pub child_taken : (entries : List Entry) → AreTaken (child_steps demo_scheme word certificates issuer IsChild entries) → AreTaken (record_steps entries issuer)
     child_taken entries taken = (taken.0, (taken.1.0, (taken.1.1.0, tt)))
 
-    pub child_for : (cert : KeptCertificate) → IsIssuedCert demo_scheme word certificates issuer IsChild cert → IsAtPlace place line cert
+    pub child_for : (cert : KeptCertificate) → IsIssuedCert demo_scheme word certificates issuer IsChild cert → IsAtIndex place line cert
     child_for cert is =
         let under = is.under in
         let by = under.by in
@@ -260,11 +259,7 @@ pub no_lines : (lines : List Line) (entries : List Entry) (certificates : List K
 no_lines lines entries certificates none also =
     subst (λ (es : List Entry). IsFilled [] es certificates) (sym none) (subst (λ (cs : List KeptCertificate). IsFilled [] [] cs) (sym also) empty_filled)
 
--- all lines
-pub all_lines : (lines : List Line) (place : ℕ) (entries : List Entry) (certificates : List KeptCertificate) → length lines ≤ place → IsFilled (take place lines) entries certificates → IsFilled lines entries certificates
-all_lines lines place entries certificates all = subst (λ (ls : List Line). IsFilled ls entries certificates) (take_all place lines all)
-
--- the line at a place, as it is stored
+-- the line at an index, as it is stored
 pub line_at : (lines : List RegisterLine) (place : ℕ) (held : RegisterLine) → place < length lines → held ≡ slice_index_or lines place held → slice_get (map line_held lines) place ≡ Some (line_held held)
 line_at lines place held within read = slice_get-map line_held lines place ∙ ap (option_map line_held) (slice_get_read lines (length lines) place held refl within read)
 

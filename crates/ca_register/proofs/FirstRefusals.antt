@@ -1,8 +1,7 @@
 -- The first line that isn't issued is refused for one reason, which the lines decide.
-use Rattle.std.proofs.Common.{◌≡◌, ◌≢◌, ◌<◌, ◌≤◌, ◌⊎◌, ℕ, ◌+◌, zero, suc, Bool, false, true, IsTrue, List, [], ◌∷◌, ◌++◌, length, take, drop, Option, Some, None, inl, inr, refl, sym, ap, subst, ◌∙◌, arith}
-use Rattle.std.proofs.lemmas.Bool.{cases_lt, false≢true}
-use Rattle.std.specs.List.{slice_get}
-use Rattle.der_core.specs.Steps.{AreTaken, IsFirstUntaken, Step}
+use Rattle.std.proofs.Common.{◌≡◌, ◌⊎◌, ℕ, List, [], ◌∷◌, ◌++◌, Option, Some, None, inl, inr, refl, sym, ap, subst, ◌∙◌}
+use Rattle.std.proofs.lemmas.Bool.{false≢true}
+use Rattle.der_core.specs.Steps.{IsFirstUntaken}
 use Rattle.der_core.proofs.TakenSteps.{HasOneError, HaveOneError}
 use Rattle.register_text.specs.Lines.{Line}
 use Rattle.ca_register.specs.Issuing.{root_step}

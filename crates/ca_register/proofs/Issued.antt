@@ -1,9 +1,9 @@
 -- A register with a certificate issued under one of its own: its builder, its entry, and what the
 -- steps refuse.
-use Rattle.std.proofs.Common.{◌≡◌, ◌<◌, ◌⊎◌, slice_index_or, ℕ, Bool, true, false, List, [], ◌∷◌, ◌++◌, length, Option, Some, None, Result, Ok, Err, MatchResult, inl, inr, refl, sym, ap, subst, ◌∙◌}
+use Rattle.std.proofs.Common.{◌≡◌, ◌<◌, slice_index_or, ℕ, Bool, true, List, [], ◌∷◌, length, Some, Result, Ok, Err, inl, inr, refl, sym, ap, subst, ◌∙◌}
 use Rattle.std.proofs.lemmas.Option.{slice_get_read}
 use Rattle.der_core.specs.Encoding.{encoding}
-use Rattle.der_core.specs.Steps.{AreTaken, IsFirstUntaken, RefusesBySteps, Step}
+use Rattle.der_core.specs.Steps.{AreTaken, IsFirstUntaken, RefusesBySteps}
 use Rattle.key_core.specs.Signing.{KeyArithmetic}
 use Rattle.key_core.specs.Verifying.{Judge}
 use Rattle.key_core.specs.declared.private_key.PrivateKey.{PrivateKey}

@@ -1,20 +1,17 @@
 -- What every register keeps, used and kept.
-use Rattle.std.proofs.Common.{◌≡◌, ◌<◌, ◌⊎◌, ℕ, IsTrue, true, List, [], ◌∷◌, ◌++◌, length, Option, Some, None, inl, inr, refl, sym, ap, subst, ◌∙◌, arith}
+use Rattle.std.proofs.Common.{◌≡◌, ℕ, IsTrue, List, [], ◌∷◌, ◌++◌, length, Some, None, sym, subst, ◌∙◌}
 use Rattle.std.proofs.Math.Logic.{∥∥₁_elim, ∥∥₁_map}
 use Rattle.std.proofs.Math.Nat.{ℕ_set}
-use Rattle.std.specs.List.{slice_get}
 use Rattle.std.specs.Coded.{le_prop}
 use Rattle.der_core.specs.Steps.{AreTaken}
 use Rattle.key_core.specs.Verifying.{Judge}
 use Rattle.x509_types.specs.ExtensionParts.{HasSubjectKey}
-use Rattle.x509_core.specs.History.{AreAncestors, HasIssuer, History, IsOrdered}
+use Rattle.x509_core.specs.History.{AreAncestors, IsOrdered}
 use Rattle.x509_core.specs.Issued.{HasCert, IsCertifiedBy, IsNext, IsRecordedAs}
 use Rattle.x509_core.specs.KeptCertificate.{KeptCertificate}
 use Rattle.x509_core.proofs.Validity.{same_some}
-use Rattle.x509_issuing.specs.declared.builder.CertificateBuilder.{CertificateBuilder}
 use Rattle.ca_register.specs.Authorities.{AreAuthorities, IsRegister}
 use Rattle.ca_register.specs.Entries.{history_of, step_of}
-use Rattle.ca_register.specs.Granting.{IsGranted}
 use Rattle.ca_register.specs.Issuing.{record_steps}
 use Rattle.ca_register.specs.declared.entry.Entry.{Entry}
 use Rattle.ca_register.specs.declared.entry.Grant.{Grant}

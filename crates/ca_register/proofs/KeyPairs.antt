@@ -21,8 +21,6 @@ use Rattle.private_key_types.specs.declared.rsa_private_key.RsaPrivateKey.{RsaPr
 use Rattle.sig_core.specs.Digest.{digest_of}
 use Rattle.sig_core.specs.DemoScheme.{demo_key, demo_signature, demo_signs, demo_verdict}
 use Rattle.sig_core.specs.RsaSecret.{RsaNumbers, rsa_private_element, rsa_public_element}
-use Rattle.sig_core.specs.declared.algorithm.SigAlg.{SigAlg}
-use Rattle.sig_core.specs.declared.algorithm.SigAlg.TheVariants.{RsaSha256}
 use Rattle.sig_core.specs.declared.hash.HashAlgorithm.TheVariants.{SHA2_256}
 use Rattle.sig_core.specs.declared.scheme.Verdict.TheVariants.{Accept, Reject, Malformed}
 use Rattle.sig_core.proofs.SecretKids.{kids_of_key, same_kids}

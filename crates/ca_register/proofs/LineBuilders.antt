@@ -16,11 +16,9 @@ use Rattle.names_core.specs.declared.name.DirectoryName.{DirectoryName}
 use Rattle.register_text.specs.Lines.{Line}
 use Rattle.sig_core.specs.DemoScheme.{demo_verdict}
 use Rattle.x509_types.specs.FirstOfValue.{extensions_in}
-use Rattle.x509_types.specs.declared.extension.Extension.{Extension}
-use Rattle.x509_types.specs.declared.extension.view.ExtensionView.{ExtensionView}
 use Rattle.x509_types.specs.declared.extension.view.ExtensionView.TheVariants as views
 use Rattle.x509_core.specs.KeptCertificate.{KeptCertificate}
-use Rattle.x509_issuing.specs.BuiltCertificate.{IsGivenSubject, IsSubjectBy, IsTbsFor, authority_of}
+use Rattle.x509_issuing.specs.BuiltCertificate.{IsGivenSubject, IsSubjectBy, authority_of}
 use Rattle.x509_issuing.specs.IssuedUnder.{IsIdentifiedBy}
 use Rattle.x509_issuing.specs.MadeExtensions.{inherited}
 use Rattle.x509_issuing.specs.declared.builder.CertificateBuilder.{CertificateBuilder}

@@ -1,13 +1,11 @@
 -- The certificate of a line is refused for memory alone, and is for the line.
-use Rattle.std.proofs.Common.{◌≡◌, ◌⊎◌, inl, inr, Bool, true, false, ℕ, ◌<◌, ◌≤◌, ◌==◌, if◌then◌else◌, List, [], ◌∷◌, ◌++◌, length, Option, Some, None, refl, sym, ap, subst, ◌∙◌, arith}
+use Rattle.std.proofs.Common.{◌≡◌, inl, inr, Bool, true, false, ℕ, ◌<◌, ◌≤◌, ◌==◌, if◌then◌else◌, List, [], ◌∷◌, ◌++◌, length, Option, Some, None, refl, sym, ap, subst, ◌∙◌, arith}
 use Rattle.std.specs.Prelude.{⊤}
 use Rattle.std.proofs.lemmas.Bool.{eqb-true}
-use Rattle.der_core.specs.Refusals.{Wraps}
-use Rattle.der_core.specs.Steps.{IsFirstUntaken, RefusesBySteps, Step}
+use Rattle.der_core.specs.Steps.{IsFirstUntaken, Step}
 use Rattle.asn1_types.specs.Integer.{IsUnsignedInteger}
 use Rattle.asn1_types.specs.Values.{integer_contents}
 use Rattle.asn1_types.specs.declared.oids.TheConstants.{CE_SUBJECT_KEY_IDENTIFIER}
-use Rattle.asn1_types.specs.declared.generalized_time.GeneralizedTime.{GeneralizedTime}
 use Rattle.sig_core.specs.DemoScheme.{demo_verdict}
 use Rattle.sig_core.specs.declared.hash.HashAlgorithm.TheVariants.{SHA2_256}
 use Rattle.key_core.specs.KeyIdentifier.{RefusesKeyIdentifier}
@@ -47,7 +45,7 @@ use Rattle.ca_register.specs.Granting.{IsGranted}
 use Rattle.ca_register.specs.LineCertificates.{IsForLine}
 use Rattle.ca_register.specs.LineKeys.{key_secret}
 use Rattle.ca_register.specs.declared.entry.Grant.{Grant}
-use Rattle.ca_register.proofs.KeyPairs.{demo_pair, demo_scheme, signs_by_demo}
+use Rattle.ca_register.proofs.KeyPairs.{demo_scheme, signs_by_demo}
 use Rattle.ca_register.proofs.KeyRefusals.{half_or_memory, identifier_or_memory, signature_or_memory}
 use Rattle.ca_register.proofs.LineBuilders.{HasSubject, IsSetFor, subject_is}
 use Rattle.ca_register.proofs.Sizes.{only_memory}

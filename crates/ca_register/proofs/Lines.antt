@@ -1,11 +1,9 @@
 -- The ancestors of an entry, in a register and in one with an entry more.
-use Rattle.std.proofs.Common.{◌≡◌, ◌<◌, ◌≤◌, ◌⊎◌, ℕ, zero, suc, List, [], ◌∷◌, ◌++◌, length, Option, Some, None, inl, inr, refl, sym, ap, subst, ◌∙◌, arith}
+use Rattle.std.proofs.Common.{◌≡◌, ◌<◌, ℕ, zero, suc, List, [], ◌∷◌, ◌++◌, length, Some, inl, inr, subst, arith}
 use Rattle.std.specs.List.{slice_get}
 use Rattle.std.proofs.lemmas.Option.{slice_get_within}
-use Rattle.x509_core.specs.Chain.{last_of}
-use Rattle.x509_core.specs.History.{AreAncestors, AreIssuers, HasIssuer, HasStep, History, IsOrdered, IsRootStep, IssuingStep}
+use Rattle.x509_core.specs.History.{AreAncestors, HasIssuer, HasStep, History, IsOrdered, IsRootStep, IssuingStep}
 use Rattle.x509_core.proofs.GrowingHistories.{IsOldOrNew, old_or_new}
-use Rattle.x509_core.proofs.Histories.{step_once}
 use Rattle.x509_core.proofs.Validity.{same_some}
 
 pub nothing_at : {A : Type 0} (index : ℕ) (item : A) → slice_get {X = A} [] index ≡ Some item → ⊥

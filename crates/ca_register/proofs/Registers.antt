@@ -1,19 +1,18 @@
 -- A register with one certificate more.
-use Rattle.std.proofs.Common.{◌≡◌, ◌<◌, ◌≤◌, ◌⊎◌, ℕ, zero, suc, IsTrue, List, [], ◌∷◌, ◌++◌, length, Option, Some, None, inl, inr, refl, sym, ap, subst, ◌∙◌, arith}
+use Rattle.std.proofs.Common.{◌≡◌, ◌<◌, ◌≤◌, ◌⊎◌, ℕ, zero, suc, IsTrue, List, [], ◌∷◌, ◌++◌, length, Some, None, inl, inr, refl, sym, ap, subst, ◌∙◌, arith}
 use Rattle.std.specs.List.{slice_get}
 use Rattle.std.proofs.lemmas.Bool.{cases_lt}
 use Rattle.std.proofs.lemmas.Option.{slice_get_within}
 use Rattle.key_core.specs.Verifying.{Judge}
-use Rattle.x509_core.specs.History.{AreAncestors, HasIssuer, HasStep, History, IsOrdered, IsRootStep, IssuingStep}
+use Rattle.x509_core.specs.History.{AreAncestors, HasStep, History, IsRootStep, IssuingStep}
 use Rattle.x509_core.specs.Issued.{IsIssued, IsNext}
 use Rattle.x509_core.specs.KeptCertificate.{KeptCertificate}
 use Rattle.x509_core.proofs.Chains.{map_more}
 use Rattle.x509_core.proofs.GrowingHistories.{IsOldOrNew, issued_with_step, old_or_new}
-use Rattle.x509_core.proofs.Histories.{step_once}
 use Rattle.x509_core.proofs.Validity.{same_some}
-use Rattle.ca_register.specs.Authorities.{AreAuthorities, IsAuthority, IsRegister}
+use Rattle.ca_register.specs.Authorities.{AreAuthorities, IsRegister}
 use Rattle.ca_register.specs.Entries.{HasEntry, history_of, step_of}
-use Rattle.ca_register.specs.Issuing.{AreAbove, IsTooShort, NoneTooShort}
+use Rattle.ca_register.specs.Issuing.{NoneTooShort}
 use Rattle.ca_register.specs.declared.entry.Entry.{Entry}
 use Rattle.ca_register.proofs.Lines.{ancestor_within, nothing_at, old_ancestors, old_step}
 use Rattle.ca_register.proofs.Records.{IsStepOf, entry_of}

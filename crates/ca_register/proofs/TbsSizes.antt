@@ -1,13 +1,11 @@
 -- What is written for the certificate of a line is small.
-use Rattle.std.proofs.Common.{◌≡◌, Bool, true, false, ◌==◌, if◌then◌else◌, ℕ, ◌+◌, ◌<◌, ◌≤◌, List, [], ◌∷◌, ◌++◌, length, Option, Some, None, refl, sym, ap, subst, ◌∙◌, arith}
-use Rattle.std.proofs.lemmas.Bool.{eqb-true}
+use Rattle.std.proofs.Common.{◌≡◌, Bool, true, false, ◌==◌, if◌then◌else◌, ℕ, ◌<◌, ◌≤◌, List, [], ◌∷◌, ◌++◌, length, Option, Some, None, sym, ap, subst, ◌∙◌, arith}
 use Rattle.std.specs.Option.{option_map}
-use Rattle.der_core.specs.DerElement.{DerElement, Primitive}
-use Rattle.der_core.specs.Elements.{bit_octets, sequence}
-use Rattle.der_core.specs.Encoding.{encoding, nesting}
+use Rattle.der_core.specs.DerElement.{DerElement}
+use Rattle.der_core.specs.Elements.{sequence}
+use Rattle.der_core.specs.Encoding.{nesting}
 use Rattle.der_core.specs.Optional.{inner_option}
 use Rattle.asn1_types.specs.Elements.{bit_string, integer_of}
-use Rattle.asn1_types.specs.Integer.{IsUnsignedInteger}
 use Rattle.asn1_types.specs.Values.{integer_contents, payload_of}
 use Rattle.asn1_types.specs.declared.oids.TheConstants.{SHA256_WITH_RSA_ENCRYPTION}
 use Rattle.key_types.specs.AlgorithmIdentifier.{algorithm_identifier}

@@ -1,11 +1,11 @@
 -- A certificate of a register is valid at a date exactly if the date is between the ends of
 -- `IsUsable`.
-use Rattle.std.proofs.Common.{◌≡◌, ◌↔◌, ℕ, zero, suc, IsTrue, List, [], ◌∷◌, Option, Some, refl, sym, ap, subst, ◌∙◌}
+use Rattle.std.proofs.Common.{◌≡◌, ℕ, zero, suc, IsTrue, List, [], ◌∷◌, Some, refl, sym, subst}
 use Rattle.std.specs.List.{slice_get}
 use Rattle.asn1_types.specs.declared.generalized_time.GeneralizedTime.{GeneralizedTime}
 use Rattle.key_core.specs.Verifying.{Judge}
 use Rattle.x509_core.specs.Chain.{last_of}
-use Rattle.x509_core.specs.History.{AreAncestors, AreAllowed, HasStep, History, IsAllowed, IsDuring, IsRootStep, IsValidAt, IssuingStep}
+use Rattle.x509_core.specs.History.{AreAncestors, AreAllowed, HasStep, History, IsDuring, IsValidAt, IssuingStep}
 use Rattle.x509_core.specs.KeptCertificate.{KeptCertificate}
 use Rattle.x509_core.specs.Window.{IsEarlier}
 use Rattle.x509_core.proofs.Histories.{ancestors_once, step_once}
@@ -15,7 +15,6 @@ use Rattle.ca_register.specs.Entries.{HasEntry, history_of, step_of}
 use Rattle.ca_register.specs.Usable.{IsAmong, IsBetween, IsUsable}
 use Rattle.ca_register.specs.declared.entry.Entry.{Entry}
 use Rattle.ca_register.proofs.Dates.{after_earlier, before_later}
-use Rattle.ca_register.proofs.Lines.{here_within}
 use Rattle.ca_register.proofs.Records.{IsStepOf, entry_of, step_at}
 
 module _ (judge : Judge) (entries : List Entry) (certificates : List KeptCertificate) (is : IsRegister judge entries certificates) (place : ℕ) (from to date : GeneralizedTime) (usable : IsUsable entries place from to) where

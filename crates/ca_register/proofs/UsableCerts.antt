@@ -1,9 +1,7 @@
 -- The certificates of a register that are usable at a date are those that are accepted.
-use Rattle.std.proofs.Common.{◌≡◌, ◌↔◌, ◌<◌, ℕ, IsTrue, Bool, List, ◌∷◌, length, Some, sym, subst}
+use Rattle.std.proofs.Common.{◌↔◌, ◌<◌, ℕ, IsTrue, Bool, List, ◌∷◌, length, sym, subst}
 use Rattle.asn1_types.specs.declared.generalized_time.GeneralizedTime.{GeneralizedTime}
 use Rattle.key_core.specs.Verifying.{Judge}
-use Rattle.x509_core.specs.History.{AreAncestors}
-use Rattle.x509_core.specs.Issued.{AreCertsAt, HasCert}
 use Rattle.x509_core.specs.KeptCertificate.{KeptCertificate}
 use Rattle.x509_core.specs.Window.{IsEarlier}
 use Rattle.x509_core.proofs.Histories.{ancestors_once, item_at}
@@ -11,7 +9,7 @@ use Rattle.x509_core.proofs.IssuedLinks.{accepted, valid}
 use Rattle.ca_register.specs.Authorities.{IsRegister}
 use Rattle.ca_register.specs.Counting.{IsAcceptedAt, IsUsableAt}
 use Rattle.ca_register.specs.Entries.{history_of}
-use Rattle.ca_register.specs.Usable.{IsAmong, IsBetween, IsEarliestTo, IsLatestFrom, IsUsable}
+use Rattle.ca_register.specs.Usable.{IsBetween, IsEarliestTo, IsLatestFrom, IsUsable}
 use Rattle.ca_register.specs.declared.entry.Entry.{Entry}
 use Rattle.ca_register.proofs.Dates.{after_earlier, before_later}
 use Rattle.ca_register.proofs.Usability.{between_valid, valid_between}

@@ -1,19 +1,19 @@
 -- Walking from an entry to its root, and what is best of the entries so far.
-use Rattle.std.proofs.Common.{◌≡◌, ◌<◌, ◌≤◌, ◌⊎◌, ℕ, zero, suc, ◌+◌, List, [], ◌∷◌, length, Option, Some, None, inl, inr, refl, sym, ap, subst, ◌∙◌, arith}
+use Rattle.std.proofs.Common.{◌≡◌, ◌<◌, ◌≤◌, ◌⊎◌, ℕ, zero, suc, ◌+◌, List, [], ◌∷◌, length, Some, inl, inr, refl, sym, ap, subst, ◌∙◌, arith}
 use Rattle.std.specs.List.{slice_get}
 use Rattle.std.proofs.lemmas.Bool.{cases_lt}
 use Rattle.asn1_types.specs.declared.generalized_time.GeneralizedTime.{GeneralizedTime}
-use Rattle.x509_core.specs.History.{AreAncestors, HasIssuer, HasStep, History, IsOrdered, IsRootStep}
+use Rattle.x509_core.specs.History.{AreAncestors, HasIssuer, History, IsOrdered, IsRootStep}
 use Rattle.x509_core.specs.Window.{IsEarlier}
-use Rattle.x509_core.proofs.Histories.{ancestors_once, issuer_once, line_of, root_is_not_issued}
+use Rattle.x509_core.proofs.Histories.{issuer_once, line_of, root_is_not_issued}
 use Rattle.x509_core.proofs.Validity.{same_some}
 use Rattle.ca_register.specs.Entries.{HasEntry, history_of}
-use Rattle.ca_register.specs.Issuing.{AreAbove, IsFirstTooShort, IsTooShort, NoneTooShort}
-use Rattle.ca_register.specs.Usable.{IsAmong, IsEarliestTo, IsLatestFrom, IsUsable}
+use Rattle.ca_register.specs.Issuing.{IsFirstTooShort, IsTooShort, NoneTooShort}
+use Rattle.ca_register.specs.Usable.{IsAmong, IsUsable}
 use Rattle.ca_register.specs.declared.entry.Entry.{Entry}
 use Rattle.ca_register.proofs.Dates.{after_earlier, before_later, not_before_itself}
 use Rattle.ca_register.proofs.Lines.{nothing_at}
-use Rattle.ca_register.proofs.Records.{as_many, issued_at, root_at}
+use Rattle.ca_register.proofs.Records.{as_many, issued_at}
 
 module _ (history : History) where
   pub next_on_line : (index : ℕ) (ancestors : List ℕ) (number at issuer : ℕ) → AreAncestors history index ancestors → slice_get (index ∷ ancestors) number ≡ Some at → HasIssuer history at issuer

@@ -19,14 +19,14 @@ IsCount P (suc below) number =
     (P below × ((others : ℕ) × (number ≡ others + 1) × IsCount P below others))
     ⊎ ((P below → ⊥) × IsCount P below number)
 
--- The entry at a place is usable at the date.
+-- The entry at an index is usable at the date.
 pub record IsUsableAt (entries : List Entry) (date : GeneralizedTime) (place : ℕ) : Type 0 where
   pub from : GeneralizedTime
   pub to : GeneralizedTime
   pub usable : IsUsable entries place from to
   pub between : IsBetween from to date
 
--- The certificate at a place is accepted over those of all its ancestors, at the date, with all
+-- The certificate at an index is accepted over those of all its ancestors, at the date, with all
 -- checks.
 pub record IsAcceptedAt (judge : Judge) (entries : List Entry) (certificates : List KeptCertificate)
     (date : GeneralizedTime) (place : ℕ) : Type 0 where

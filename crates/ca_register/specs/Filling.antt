@@ -14,6 +14,6 @@ pub record IsFilled (lines : List Line) (entries : List Entry)
   pub issuable : AreIssuable lines
   pub each : AreForLines lines certificates
 
--- if there is a line at this place, its key has this number
+-- if there is a line at this index, its key has this number
 abbrev pub IsKeyAt : List Line → (place key : ℕ) → Type 0
 IsKeyAt lines place key = (line : Line) → slice_get lines place ≡ Some line → key ≡ line.key

@@ -34,14 +34,14 @@ pub record IsForLine (line : Line) (cert : KeptCertificate) : Type 0 where
       (extensions_in cert.certificate.tbs_certificate.extensions)
       (views.SubjectKeyIdentifier (key_id_of line.key))
 
--- The certificate is for the line at a place, and its serial number is one more than the place.
-pub record IsAtPlace (place : ℕ) (line : Line) (cert : KeptCertificate) : Type 0 where
+-- The certificate is for the line at an index, and its serial number is one more than the index.
+pub record IsAtIndex (place : ℕ) (line : Line) (cert : KeptCertificate) : Type 0 where
   pub for : IsForLine line cert
   pub numbered : IsUnsignedInteger (place + 1)
       (integer_contents cert.certificate.tbs_certificate.serial_number)
 
--- each certificate is for the line at its place
+-- each certificate is for the line at its index
 abbrev pub AreForLines : List Line → List KeptCertificate → Type 0
 AreForLines lines certificates =
     (place : ℕ) (line : Line) (cert : KeptCertificate) → slice_get lines place ≡ Some line
-    → HasCert certificates place cert → IsAtPlace place line cert
+    → HasCert certificates place cert → IsAtIndex place line cert

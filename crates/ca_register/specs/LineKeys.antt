@@ -1,5 +1,5 @@
 -- The keys of a register's lines. Nothing is computed with them but their public parts.
-use Rattle.std.specs.Prelude.{◌≡◌, ℕ, List, [], ◌∷◌, Some}
+use Rattle.std.specs.Prelude.{ℕ, List, [], ◌∷◌, Some}
 use Rattle.sha2.specs.Sha256.{sha256}
 use Rattle.der_core.specs.DerElement.{DerElement}
 use Rattle.der_core.specs.Elements.{bit_octets, null, sequence}

@@ -36,7 +36,7 @@ fn counted(number: usize, is_one: bool) -> usize
     if is_one { number + 1 } else { number }
 }
 
-/// Whether the certificate at this place is accepted at the date.
+/// Whether the certificate at this index is accepted at the date.
 fn is_usable<S: Scheme + Drop>(register: &Register<S>, place: usize, date: &UtcDate) -> bool
     requires within { place < length register.now.entries.items }
     ensures usable { IsTrue result ↔ IsUsableAt register.now.entries.items date.now place }

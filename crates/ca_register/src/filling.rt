@@ -41,7 +41,7 @@ pub(crate) fn register_of(
     Ok(register)
 }
 
-/// Issues the certificate of the line at this place, after those of the lines before it.
+/// Issues the certificate of the line at this index, after those of the lines before it.
 fn issue(
     alloc: Global,
     register: &mut Register<DemoScheme>,
@@ -116,7 +116,7 @@ fn issue_child(
     register.child(issuer, &signer, name, key, grant_of(line), place as u32 + 1)
 }
 
-/// The number of the key of the line at this place, 0 if there is none.
+/// The number of the key of the line at this index, 0 if there is none.
 fn signer_of(lines: &[RegisterLine], place: usize) -> u8
     ensures { IsKeyAt (map line_held lines.now) place result }
 {

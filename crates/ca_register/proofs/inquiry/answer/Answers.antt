@@ -1,4 +1,4 @@
-use Rattle.std.proofs.Common.{[], ◌∷◌, List, ℕ, length, Err, ap, ◌∙◌, arith, sym, subst}
+use Rattle.std.proofs.Common.{[], ◌∷◌, List, ℕ, length, Err, ap, ◌∙◌, sym, subst}
 use Rattle.std.proofs.lemmas.Result.{err_from_is_err_and}
 use Rattle.program_frame.specs.Limits.{IsWholeFile}
 use Rattle.program_frame.specs.ReadFiles.{HandsOut}

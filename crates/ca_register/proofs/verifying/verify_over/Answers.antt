@@ -1,6 +1,6 @@
 use Rattle.std.proofs.Common.{◌≡◌, List, Option, Some, Result, MatchResult, ap, subst, ◌∙◌}
 use Rattle.key_core.specs.Verifying.{Judge}
-use Rattle.x509_core.specs.Chain.{IsAccepted, YieldsParents, chain_rules, lent}
+use Rattle.x509_core.specs.Chain.{IsAccepted, chain_rules}
 use Rattle.x509_core.specs.Checks.{checks_at}
 use Rattle.x509_core.specs.KeptCertificate.{KeptCertificate}
 use Rattle.x509_core.specs.Rules.{RefusesCertBy}
