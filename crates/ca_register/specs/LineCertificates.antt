@@ -35,9 +35,9 @@ pub record IsForLine (line : Line) (cert : KeptCertificate) : Type 0 where
       (views.SubjectKeyIdentifier (key_id_of line.key))
 
 -- The certificate is for the line at an index, and its serial number is one more than the index.
-pub record IsAtIndex (place : ℕ) (line : Line) (cert : KeptCertificate) : Type 0 where
+pub record IsAtIndex (index : ℕ) (line : Line) (cert : KeptCertificate) : Type 0 where
   pub for : IsForLine line cert
-  pub numbered : IsUnsignedInteger (place + 1)
+  pub numbered : IsUnsignedInteger (index + 1)
       (integer_contents cert.certificate.tbs_certificate.serial_number)
 
 -- each certificate is for the line at its index
