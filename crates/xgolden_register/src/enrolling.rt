@@ -7,6 +7,7 @@ use crate::stored::Stored;
 use anyhow::{Context, Result, bail};
 use ca_register::{IssueError, Register};
 use key_core::PrivateKey;
+use names_core::UtcDate;
 use sig_core::DemoScheme;
 use std::alloc::Global;
 use xgolden::{Line, octets_of};
@@ -17,11 +18,32 @@ pub fn print(alloc: Global, words: &str, line: &mut Line) -> Result<()> {
     let [table, signatures, keys, date, calls @ ..] = words.as_slice() else {
         bail!("a table, signatures, keys and a date are given");
     };
-    let scheme = Stored::of(alloc, table, signatures)?;
+    print_called(alloc, (table, signatures), (keys, date), calls, line)
+}
+
+fn print_called(
+    alloc: Global,
+    (table, signatures): (&str, &str),
+    (keys, date): (&str, &str),
+    calls: &[&str],
+    line: &mut Line,
+) -> Result<()> {
+    let date = date_of(date)?;
     let keys = keys_of(alloc, keys)?;
+    let scheme = Stored::of(alloc, table, signatures)?;
     let register = register_of(alloc, scheme, &keys, calls, line)?;
-    print_marks(alloc, &register, &date_of(date)?, line)?;
-    print_certificates(&register, line)
+    print_register(alloc, &register, &date, line)
+}
+
+/// Prints which certificates are accepted at a date, and each certificate.
+fn print_register(
+    alloc: Global,
+    register: &Register<Stored>,
+    date: &UtcDate,
+    line: &mut Line,
+) -> Result<()> {
+    print_marks(alloc, register, date, line)?;
+    print_certificates(register, line)
 }
 
 /// Private keys, commas between.
