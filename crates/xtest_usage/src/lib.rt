@@ -11,6 +11,8 @@ mod histories;
 #[cfg(test)]
 mod issuing;
 #[cfg(test)]
+mod judging;
+#[cfg(test)]
 mod keys;
 #[cfg(test)]
 mod names;
