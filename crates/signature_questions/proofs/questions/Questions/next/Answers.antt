@@ -25,5 +25,4 @@ pub returns-clause-fewer : goal.returns-clause-fewer
 returns-clause-fewer c = token_fewer _ _ _ _ _ _ (ap left_links (c.in_default-next_of.ensures.ended refl)) c.next_of-2.ensures.fewer
 
 pub returns-clause-ended : goal.returns-clause-ended
-returns-clause-ended c none =
-    past_the_end c.answer.new.self c.in_default.is (c.in_default-next_of.ensures.ended refl) (c.next_of-2.ensures.ended none)
+returns-clause-ended c none = past_the_end _ c.in_default.is (c.in_default-next_of.ensures.ended refl) (c.next_of-2.ensures.ended none)
