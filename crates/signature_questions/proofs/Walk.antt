@@ -114,6 +114,10 @@ module _ (old new : Questions) where
 pub none_is_ahead : (old : Questions) → old.signer ≡ None → AreAheadOf old.path [] → AreAheadOf old.token [] → AreAhead old []
 none_is_ahead old none path token = record { path = []; token = []; are = sym (no_more old.signer none []); of_path = path; of_token = token }
 
+-- where nothing is left
+pub past_the_end : (cursor : Questions) → cursor.signer ≡ None → cursor.path ≡ None → cursor.token ≡ None → AreAhead cursor []
+past_the_end cursor signer path token = none_is_ahead cursor signer (nothing_ahead cursor.path path) (nothing_ahead cursor.token token)
+
 -- if the signer's question and those of its path are past
 pub token_answers : (old new : Questions) (r : Option BorrowedQuestion) → old.signer ≡ None → new.signer ≡ None → AreAheadOf old.path [] → new.path ≡ None
     → MatchOption r (AreAheadOf old.token []) (λ q. (others : List Question) → AreAheadOf new.token others → AreAheadOf old.token (asked q ∷ others))

@@ -1,6 +1,6 @@
 //! The questions about a chain of certificates, one after another, borrowed.
 
-ghost use Rattle.std.specs.Prelude.{◌<◌, ◌∷◌, List, [], length, IfSome, MatchOption};
+ghost use Rattle.std.specs.Prelude.{◌≡◌, ◌<◌, ◌∷◌, List, [], length, IfSome, MatchOption, None};
 ghost use Rattle.signature_questions.specs.Ahead.{AreChainAhead};
 ghost use Rattle.signature_questions.specs.Borrowed.{asked};
 ghost use Rattle.signature_questions.specs.Listed.{AreOfChain};
@@ -37,6 +37,8 @@ impl<'a> ChainQuestions<'a> {
         ensures next { MatchOption result (AreChainAhead self.old []) (λ q.
             (others : List AskedQuestion) → AreChainAhead self.new others
             → AreChainAhead self.old (asked q ∷ others)) }
+        // After the end there are none, however often this is called.
+        ensures ended { result ≡ None → AreChainAhead self.new [] }
     {
         while let Some((parent, others)) = self.parents.split_first() {
             let question = Question::of_link(&parent.view(), &self.child.view());

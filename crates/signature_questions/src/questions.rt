@@ -58,6 +58,8 @@ impl<'a> Questions<'a> {
         // If no question is returned, there is none.
         ensures next { MatchOption result (AreAhead self.old []) (λ q. (others : List AskedQuestion)
             → AreAhead self.new others → AreAhead self.old (asked q ∷ others)) }
+        // After the end there are none, however often this is called.
+        ensures ended { result ≡ None → AreAhead self.new [] }
     {
         if let Some(question) = self.signer {
             self.signer = None;

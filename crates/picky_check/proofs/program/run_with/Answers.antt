@@ -1,4 +1,4 @@
-use Rattle.std.proofs.Common.{◌∙◌, length, subst, arith}
+use Rattle.std.proofs.Common.{◌∙◌, length, refl, subst, arith}
 use Rattle.program_frame.specs.ReadFiles.{HandsOutAtMost}
 use Rattle.program_frame.proofs.Failing.{failed_as}
 use Rattle.program_frame.proofs.Runs.{IsRun-ended, IsRun-memory, IsRun-unasked, reports_shelf}
@@ -19,7 +19,7 @@ pub returns-in-Ok-None-clause-ends : goal.returns-in-Ok-None-clause-ends
 returns-in-Ok-None-clause-ends g c = IsRun-unasked commands _ _ _ (rw c.in-Ok-None.field-0-is at c.in-Ok-None.ensures.asked)
 
 pub returns-in-Err-clause-ends : goal.returns-in-Err-clause-ends
-returns-in-Err-clause-ends g c = IsRun-memory commands _ _ _ c.in-Err.ensures.memory
+returns-in-Err-clause-ends g c = IsRun-memory commands _ _ _ (c.in-Err.ensures.memory refl)
 
 pub returns-in-Ok-Some-clause-vouched_for : goal.returns-in-Ok-Some-clause-vouched_for
 returns-in-Ok-Some-clause-vouched_for g c zero =

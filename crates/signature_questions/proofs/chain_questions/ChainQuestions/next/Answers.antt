@@ -21,3 +21,6 @@ returns-in-Some-question-clause-fewer c = omega (arith, c.in-Some.ensures.cases.
 
 pub returns-clause-next : goal.returns-clause-next
 returns-clause-next c = c.loop-parent.invariant.ahead _ (chain_ends _ _ c.in_default.ensures.cases)
+
+pub returns-clause-ended : goal.returns-clause-ended
+returns-clause-ended c none = chain_ends _ _ c.in_default.ensures.cases

@@ -1,7 +1,7 @@
 use Rattle.std.proofs.Common.{◌+◌, ap, refl, arith}
 use Rattle.signature_questions.specs.Ahead.{left_links}
 use Rattle.signature_questions.specs.Borrowed.{asked}
-use Rattle.signature_questions.proofs.Walk.{fewer_left, path_is_next, signer_is_first, token_answers, token_fewer}
+use Rattle.signature_questions.proofs.Walk.{fewer_left, past_the_end, path_is_next, signer_is_first, token_answers, token_fewer}
 use Rattle.signature_questions.proofs.questions.Questions.next.Goals as goal
 
 pub returns-in-Some-clause-next : goal.returns-in-Some-clause-next
@@ -23,3 +23,6 @@ returns-clause-next c =
 
 pub returns-clause-fewer : goal.returns-clause-fewer
 returns-clause-fewer c = token_fewer _ _ _ _ _ _ (ap left_links (c.in_default-next_of.ensures.ended refl)) c.next_of-2.ensures.fewer
+
+pub returns-clause-ended : goal.returns-clause-ended
+returns-clause-ended c none = past_the_end _ c.in_default.is (c.in_default-next_of.ensures.ended refl) (c.next_of-2.ensures.ended none)
