@@ -75,7 +75,7 @@ fn verifies(question: &Question<'_>, message: &[u8], key: &[u8]) -> bool {
 }
 
 /// Asks the library about each question; of too many nothing is good.
-fn judged(alloc: Global, file: &[u8], key: &[u8]) -> Result<Judged, CheckError> {
+fn ask_library(alloc: Global, file: &[u8], key: &[u8]) -> Result<Judged, CheckError> {
     let mut questions = questions_of(file)?;
     let mut all_good = true;
     for _ in 0..MOST_ASKED {
@@ -90,7 +90,7 @@ fn judged(alloc: Global, file: &[u8], key: &[u8]) -> Result<Judged, CheckError> 
 
 /// Whether the file is signed for the digest, by what the library finds.
 fn is_signed(alloc: Global, file: &[u8], hash: &[u8], key: &[u8]) -> Result<bool, CheckError> {
-    let scheme = judged(alloc, file, key)?;
+    let scheme = ask_library(alloc, file, key)?;
     let mut policy = Policy::new(alloc);
     policy.file_hash = Some(Octets::from_slice(alloc, hash)?);
     policy.signing = false;
