@@ -49,6 +49,13 @@ impl KnownTable {
         })
     }
 
+    /// The text.
+    pub fn text(&self) -> &[u8]
+        ensures { result.now ≡ self.now.0 }
+    {
+        self.text.as_slice()
+    }
+
     /// The table, if this is its text.
     fn of(&self, text: &[u8]) -> Option<&VerdictTable>
         ensures { IfSome result (λ table. IsTable text.now table.now) }
