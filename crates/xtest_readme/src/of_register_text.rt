@@ -21,10 +21,7 @@ fn counts_roots(rt: HostRuntime) -> Result<(), Fail> {
 
 #[test]
 fn reads_the_words_of_a_line(rt: HostRuntime) -> Result<(), Fail> {
-    let lines = lines_of(rt.alloc(), REGISTER.as_bytes()).ok();
-    let Some(lines) = lines else {
-        return Err(Fail::from("the register isn't read"));
-    };
+    let lines = lines_of(rt.alloc(), REGISTER.as_bytes())?;
     let [root, ca, leaf] = lines.as_slice() else {
         return Err(Fail::from("it has three lines"));
     };
