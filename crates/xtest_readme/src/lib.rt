@@ -25,6 +25,8 @@ mod of_demo_core;
 #[cfg(test)]
 mod of_der_core;
 #[cfg(test)]
+mod of_door_frame;
+#[cfg(test)]
 mod of_extension_types;
 #[cfg(test)]
 mod of_key_core;

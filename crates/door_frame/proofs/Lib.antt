@@ -1,0 +1,5 @@
+mod Lines
+pub mod Pools
+pub mod Calls
+pub mod LentCalls
+mod TableHandleSteps
