@@ -11,7 +11,8 @@ writes in each `CRATES/NAME/README.md` two parts from the sources:
 - below `## Example` the block ```rust: the file
   `CRATES/xtest_readme/src/of_NAME.rt` up to its first `#[test]`, without
   its `//!`, `ghost use` and `use std::test` (no module may have a library's
-  name, so the file is called `of_NAME`);
+  name, so the file is called `of_NAME`); of a library with exports for C the
+  block ```c: the file `CRATES/../bindings/c/example.c`;
 - between the lines `<!-- calls -->` and `<!-- /calls -->` the public calls of
   `CRATES/NAME/src` by file, with the names of their clauses, and the
   implementations of traits.  A clause without a name is a "contract".
@@ -20,7 +21,7 @@ With `--check` it writes nothing, names each README that is out of date and
 each library that has none, and ends with the status 1 where there is one.
 Status 2: the arguments or a file can't be used.
 
-Public is what `src/lib.rt` exports.  Left out are what a derive or another
+Public is what `src/lib.rt` exports, and each `extern "C"` function.  Left out are what a derive or another
 macro writes, and `Drop` and `Model`, which promise nothing.
 """
 
@@ -39,7 +40,7 @@ HEAD = """\
 From the sources, by `tools/gate/crate_readmes.py`. "contract" is one clause without a name; `requires` marks a precondition; a type also keeps the clauses of its traits."""
 
 CLAUSE = re.compile(r"\b(?P<kind>requires|ensures|decreases)\*?\s*(?P<name>[^\s{}()]*)\s*$")
-FUNCTION = re.compile(r"(?:(?P<public>pub(?P<inside>\([^)]*\))?)\s+)?(?:(?:const|unsafe|final)\s+)*fn\s+(?P<name>\w+)")
+FUNCTION = re.compile(r"(?:(?P<public>pub(?P<inside>\([^)]*\))?)\s+)?(?:(?:const|unsafe|final|(?P<export>extern\s+\S+))\s+)*fn\s+(?P<name>\w+)")
 GHOST = re.compile(r"(?:pub(?:\([^)]*\))?\s+)?ghost\s+(?P<name>[^\s:={]+)\s*[:=]")
 TYPE = re.compile(r"(?:pub(?:\([^)]*\))?\s+)?(?P<kind>struct|enum|union|trait)\s+(?P<name>\w+)")
 ALIAS = re.compile(r"(?:pub(?:\([^)]*\))?\s+)?type\s+(?P<name>\w+)")
@@ -55,6 +56,7 @@ class Call:
 
     name: str
     is_public: bool
+    is_for_c: bool = False
     requires: list = field(default_factory=list)
     ensures: list = field(default_factory=list)
 
@@ -94,7 +96,7 @@ def next_stop(text, at, stops):
 
 def function_at(text, match):
     """A function, and the offset after it."""
-    call = Call(match["name"], match["public"] is not None and match["inside"] is None)
+    call = Call(match["name"], match["public"] is not None and match["inside"] is None, match["export"] is not None)
     start = at = match.end()
     while True:
         at = next_stop(text, at, "{;")
@@ -256,7 +258,7 @@ def calls_and_traits(crate):
         rows = []
         for item in items:
             if isinstance(item, Call):
-                if item.is_public and (item.name in names or path.stem in modules):
+                if item.is_public and (item.is_for_c or item.name in names or path.stem in modules):
                     inside = f"{path.stem}::" if path.stem in modules else ""
                     shown = names.get(item.name, item.name)
                     rows.append((f"{inside}{shown}", clauses_of(item)))
@@ -326,12 +328,23 @@ def calls_text(crate):
     return "\n".join(lines)
 
 
-def example_text(file):
-    """The example in a file: its `use` items and its functions, up to the first test."""
+def has_exports(crate):
+    """Whether a library has functions for C."""
+    files = (crate / "src").glob("**/*.rt")
+    return any(re.search(r'(?m)^pub extern "C" fn', file.read_text(encoding="utf-8")) for file in files)
+
+
+def text_of_example(file):
+    """The file that has the example of a README."""
     try:
-        text = file.read_text(encoding="utf-8")
+        return file.read_text(encoding="utf-8")
     except OSError:
         raise Unusable(f"{file} can't be read: it has the example of the README") from None
+
+
+def example_text(file):
+    """The example in a file: its `use` items and its functions, up to the first test."""
+    text = text_of_example(file)
     text = text.split("\n#[test]")[0]
     start = re.search(r"(?m)^(?:///|#\[|(?:pub )?(?:fn|struct|enum|const|type|impl)\b)", text)
     if start is None:
@@ -351,13 +364,17 @@ def written(text, crate, crates):
     if "## Example" not in lines:
         raise Unusable(f"{readme} needs a line ## Example")
     example = lines.index("## Example")
+    language = "c" if has_exports(crate) else "rust"
     try:
-        start = lines.index("```rust", example)
+        start = lines.index(f"```{language}", example)
         end = lines.index("```", start)
     except ValueError:
-        raise Unusable(f"{readme} needs a block ```rust below ## Example") from None
-    file = crates / "xtest_readme" / "src" / f"of_{crate.name}.rt"
-    lines[start + 1 : end] = example_text(file).splitlines()
+        raise Unusable(f"{readme} needs a block ```{language} below ## Example") from None
+    if language == "c":
+        shown = text_of_example(crates.parent / "bindings" / "c" / "example.c")
+    else:
+        shown = example_text(crates / "xtest_readme" / "src" / f"of_{crate.name}.rt")
+    lines[start + 1 : end] = shown.splitlines()
     return "\n".join(lines) + "\n"
 
 

@@ -1,0 +1,3 @@
+mod GivenFiles
+mod LowStatuses
+mod OverNewShelf

@@ -1,0 +1,31 @@
+use Rattle.std.proofs.Common.{◌≤◌, ℕ, List, length, map, take, sym, ap, subst, ◌∙◌}
+use Rattle.std.specs.Prelude.{string_bytes}
+use Rattle.door_frame.specs.Call.{IsCall}
+use Rattle.door_frame.specs.Files.{lent_files}
+use Rattle.door_frame.specs.Handing.{handed_line}
+use Rattle.door_frame.proofs.LentCalls.{is_call, line_fits}
+use Rattle.signature_questions.specs.Commands.{command_line}
+use Rattle.picky_door.proofs.LowStatuses.{ask_low}
+use Rattle.picky_door.proofs.ask.call.Goals as goal
+
+pub hand_out-requires : goal.hand_out-requires
+hand_out-requires c =
+    let shelf = c.new-shelf.ensures in
+    let sink = c.in-Ok-with_room.ensures in
+    let fits = line_fits (lent_files c.args.files.now) c.new-shelf.result shelf.files shelf.nothing_left shelf.none_given shelf.no_faults
+    command_line (map string_bytes c.deref.result.now) (length c.args.lines.now) (ask_low (lent_files c.args.files.now)) c.run-status.new.shelf c.in-Ok-with_room.sink c.run-status.new.out
+    sink.empty sink.room sink.no_faults c.run-status.result c.run-status.ensures.ends in
+    subst (λ (held : List ℕ). length held ≤ length c.args.lines.now) (sym c.held.ensures) fits
+
+pub returns-clause-called : goal.returns-clause-called
+returns-clause-called c =
+    let shelf = c.new-shelf.ensures in
+    let sink = c.in-Ok-with_room.ensures in
+    let held = ap (λ (h : List ℕ). handed_line c.run-status.result h) c.held.ensures in
+    let called = is_call (lent_files c.args.files.now) c.new-shelf.result shelf.files shelf.nothing_left shelf.none_given shelf.no_faults
+    command_line (map string_bytes c.deref.result.now) (length c.args.lines.now) (ask_low (lent_files c.args.files.now)) c.run-status.new.shelf c.in-Ok-with_room.sink c.run-status.new.out
+    sink.empty sink.room sink.no_faults c.run-status.result c.run-status.ensures.ends (take c.hand_out.result.written c.hand_out.new.buffer) (c.hand_out.ensures.line ∙ held) in
+    let words = ap (λ ws. map string_bytes ws) c.deref.ensures.value ∙ c.in-Ok.ensures in
+    subst (λ (ws : List (List ℕ)). IsCall command_line ws (lent_files c.args.files.now) (length c.args.lines.now) (take c.hand_out.result.written c.hand_out.new.buffer) c.hand_out.result.status) words
+    (subst (λ (status : ℕ). IsCall command_line (map string_bytes c.deref.result.now) (lent_files c.args.files.now) (length c.args.lines.now) (take c.hand_out.result.written c.hand_out.new.buffer) status)
+    (sym c.hand_out.ensures.status) called)

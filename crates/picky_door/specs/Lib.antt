@@ -1,0 +1,4 @@
+pub mod Check
+pub mod Chain
+pub mod Program
+pub mod Table
