@@ -1,0 +1,3 @@
+module picky
+
+go 1.19
