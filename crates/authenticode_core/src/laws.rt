@@ -14,7 +14,7 @@ ghost use Rattle.authenticode_core.specs.Trusted.{IsTrusted};
 ghost use Rattle.authenticode_core.specs.declared.accepted.Accepted.{Accepted};
 ghost use Rattle.authenticode_core.specs.declared.policy.Policy.{Policy};
 
-/// Octets have at most one signed data, so the signed data of a signature file is unique.
+/// Octets have at most one signed data in their first entry, so the one that is read is determined.
 pub fn one_signed_data()
     ensures { (octets : List ℕ) (f g : SignedDataElements)
         → HasSignedData octets f → HasSignedData octets g → f ≡ g }

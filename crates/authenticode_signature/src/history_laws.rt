@@ -20,8 +20,9 @@ ghost use Rattle.authenticode_signature.specs.MadeFile.{IsCheckedBy};
 /// ancestors, however many and with other subjects, and vouches for the digest of a file by that
 /// certificate, is trusted with all checks at the date exactly if the history allows each of these
 /// ancestors then. The path that is reported is all of them, without an excuse. So `check_made` and
-/// `check_wincert` accept a signature file that `AuthenticodeSignature::new` makes with these
-/// certificates exactly there, out of memory aside.
+/// `check_wincert` accept a signature file that carries exactly these certificates exactly there, out
+/// of memory aside. `AuthenticodeSignature::new` leaves roots out unless they stand alone: of a root
+/// that isn't carried the law says nothing.
 pub fn histories_decide_signatures()
     ensures trusted { (judge : Judge) (history : History) (certificates : List KeptCertificate)
         (date : GeneralizedTime) (issuers : List ℕ) (cert : KeptCertificate)

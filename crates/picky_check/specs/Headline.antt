@@ -22,7 +22,7 @@ use Rattle.program_frame.specs.Shelf.{Files, ShelfState}
 use Rattle.program_frame.specs.Sink.{Appends}
 use Rattle.picky_check.specs.Words.{Basic, Check, AsksFor}
 
--- The octets of the file SIG contain one signed data, and the text of the file TABLE is a verdict
+-- The file SIG begins with an entry around signed data, and the text of the file TABLE is a verdict
 -- table, as far as the shelf exposes its files; and exactly as many octets as these and those of the
 -- trust list, if there is one, have together were handed out. By the verdicts of the table the signed
 -- data vouches for the digest HASH, under the key of the signer's certificate, whose index is

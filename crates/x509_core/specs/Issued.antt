@@ -94,8 +94,8 @@ pub record IsOneOf (history : History) (certificates : List KeptCertificate) (si
   pub signs : octets ≡ signed_octets cert.elements
 
 -- Under the key of each certificate the scheme accepts, of all encodings of a TBSCertificate, those
--- of the certificates issued by it alone, and a root's own. So no two certificates with one key have
--- issued others. Other octets, such as requests, may be accepted.
+-- of the certificates issued by it alone, and a root's own. So certificates with one key have issued the
+-- same ones, if any. Other octets, such as requests, may be accepted.
 abbrev pub IsSealed : Judge → History → List KeptCertificate → Type 0
 IsSealed judge history certificates =
     (signer : ℕ) (parent : KeptCertificate) (info : SubjectPublicKeyInfo)

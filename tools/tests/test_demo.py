@@ -1,6 +1,6 @@
 """Tests of the maker of the demonstration's line: against draws by hand, the maker of `xgolden_issuing`, and openssl.
 
-    python3 -m unittest discover -s tools/gate
+    python3 -m unittest discover -s tools/tests
 """
 
 import sys

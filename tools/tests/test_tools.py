@@ -1,6 +1,6 @@
 """Tests of the scripts; those for users have `test_users.py`.
 
-    python3 -m unittest discover -s tools/gate
+    python3 -m unittest discover -s tools/tests
 """
 
 import re

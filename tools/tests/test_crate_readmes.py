@@ -1,4 +1,4 @@
-"""Tests of crate_readmes.py: `python3 -m unittest discover -s tools/gate -p test_crate_readmes.py`."""
+"""Tests of crate_readmes.py: `python3 -m unittest discover -s tools/tests -p test_crate_readmes.py`."""
 
 import io
 import sys
@@ -7,7 +7,7 @@ import unittest
 from contextlib import redirect_stderr, redirect_stdout
 from pathlib import Path
 
-sys.path.insert(0, str(Path(__file__).parent))
+sys.path.insert(0, str(Path(__file__).resolve().parents[1] / "gate"))
 
 import crate_readmes  # noqa: E402
 

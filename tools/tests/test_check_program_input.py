@@ -1,6 +1,6 @@
 """Tests of `check_program` on untrusted input: whatever a file holds, the report has lines that print, in a time that grows as the file does.
 
-    python3 -m unittest discover -s tools/gate
+    python3 -m unittest discover -s tools/tests
 
 The programs are the reference implementations in Python (`programs_stand_in`).
 """

@@ -1,6 +1,6 @@
 """Tests of `refuse_memory` and `refuse_in_tests`, with programs that ask for memory as they are told.
 
-    python3 -m unittest discover -s tools/gate
+    python3 -m unittest discover -s tools/tests
 """
 
 import io

@@ -1,6 +1,6 @@
 """Tests of the searches for a path to a trust anchor, of their vectors, and of what compares them with others.
 
-    python3 -m unittest discover -s tools/gate
+    python3 -m unittest discover -s tools/tests
 """
 
 import sys

@@ -1,4 +1,4 @@
-"""Tests of after_errors.py: `python3 -m unittest discover -s tools/gate -p test_after_errors.py`."""
+"""Tests of after_errors.py: `python3 -m unittest discover -s tools/tests -p test_after_errors.py`."""
 
 import io
 import sys

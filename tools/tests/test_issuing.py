@@ -1,6 +1,6 @@
 """Tests of what the maker and the judge of `xgolden_issuing` find: against lines by hand, and openssl.
 
-    python3 -m unittest discover -s tools/gate
+    python3 -m unittest discover -s tools/tests
 """
 
 import sys

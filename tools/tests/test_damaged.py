@@ -1,6 +1,6 @@
 """Tests of `damaged_files`: whole files, a few damaged ones, and a script that ends otherwise than it has to.
 
-    python3 -m unittest discover -s tools/gate
+    python3 -m unittest discover -s tools/tests
 """
 
 import random

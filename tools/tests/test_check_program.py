@@ -1,6 +1,6 @@
 """Tests of `check_program`: what it prints of programs, and that nothing but the proved programs accepts.
 
-    python3 -m unittest discover -s tools/gate
+    python3 -m unittest discover -s tools/tests
 
 The programs are the reference implementations in Python (`programs_stand_in`), or stubs that answer otherwise.
 """

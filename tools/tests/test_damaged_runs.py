@@ -1,6 +1,6 @@
 """Tests of `damaged_runs`: the jobs as they are, changes of files, and a program that answers otherwise than it has to.
 
-    python3 -m unittest discover -s tools/gate
+    python3 -m unittest discover -s tools/tests
 """
 
 import argparse

@@ -1,6 +1,6 @@
 """Tests of the scripts for users: tables, and what they say of files that they can't read.
 
-    python3 -m unittest discover -s tools/gate
+    python3 -m unittest discover -s tools/tests
 """
 
 import re
