@@ -23,11 +23,11 @@ use crate::path::others::Source;
 use crate::policy::Policy;
 use crate::signer::certificates::issuer_walk_of;
 use crate::signer::{expect_first, expect_named};
+use cms_content::expect_listed;
 use cms_types::SignedView;
 use der_core::Structure;
 use names_core::DirectoryName;
 use std::alloc::{AllocError, Global};
-use trust_list::expect_listed;
 use x509_types::CertView;
 
 /// Checks the CA of the first signer against the list of a policy, and returns the index of the

@@ -2,7 +2,7 @@ use Rattle.std.proofs.Common.{◌≡◌, ℕ, ℤ, List, arith, of_z, subst, to_
 use Rattle.std.proofs.lemmas.Int.{ints}
 use Rattle.std.proofs.lemmas.Result.{err_from_is_err_and}
 use Rattle.der_core.specs.Rules.{IsFirstBroken}
-use Rattle.trust_list.specs.Listing.{IsListed, listing_rules}
+use Rattle.cms_content.specs.Listing.{IsListed, listing_rules}
 use Rattle.authenticode_core.proofs.OnList.{no_list, not_listed}
 use Rattle.authenticode_core.proofs.listing.expect_on_list.Goals as goal
 
