@@ -20,7 +20,7 @@ where it has clauses of its own, which then stand in place of the trait's.
 
 import re
 import sys
-from dataclasses import dataclass
+from dataclasses import dataclass, field
 from pathlib import Path
 
 sys.path.insert(0, str(Path(__file__).resolve().parents[1]))
@@ -36,12 +36,13 @@ UNCHANGED = re.compile(r"\(?\s*self\.new\s*≡\s*self\.old\s*\)?")
 
 @dataclass
 class Call:
-    """A function by `&mut self` that may fail, and the names of its clauses on the value after an error."""
+    """A function by `&mut self` that may fail, and the names and the texts of its clauses on the value after an error."""
 
     crate: str
     block: str
     name: str
     clauses: list
+    said: list = field(default_factory=list)
 
     def __str__(self):
         said = ", ".join(self.clauses) or "NOTHING is said of the value after an error"
@@ -105,8 +106,9 @@ def calls_of(crate, text):
             elif of_trait:
                 is_public = clauses
             if is_public and may_fail(head):
-                said = [name or "contract" for kind, name, clause in clauses if kind == "ensures" and is_on_error(clause)]
-                yield Call(crate, f"{name} as {of_trait}" if of_trait else name, function["name"], said)
+                said = [(name or "contract", clause) for kind, name, clause in clauses if kind == "ensures" and is_on_error(clause)]
+                names, texts = ([pair[at] for pair in said] for at in (0, 1))
+                yield Call(crate, f"{name} as {of_trait}" if of_trait else name, function["name"], names, texts)
 
 
 def calls(crates):
