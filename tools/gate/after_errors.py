@@ -9,7 +9,8 @@ reads `CRATES/NAME/src` of each library and prints each public function by
 `&mut self` that returns a `Result`, and behind it the names of its clauses
 that say what the value is after an error, "contract" for one without a name.
 A caller who goes on after an error has to know what it is left with, so a
-call without such a clause is marked, and makes the exit status 1.
+call without such a clause is marked, and makes the exit status 1; where there
+is no library it is 2.
 
 Such a clause has `self.new` in what it says of an `Err`: in the argument of
 `OnErr result` or `IfErr result`, or in the second one of `MatchResult result`.
@@ -26,7 +27,7 @@ from pathlib import Path
 sys.path.insert(0, str(Path(__file__).resolve().parents[1]))
 
 from common import command
-from common.sources import is_library
+from common.sources import libraries
 from gate.crate_readmes import CLAUSE, FUNCTION, end_of, header_of, masked, next_stop
 
 BLOCK = re.compile(r"(?m)^(?P<public>pub )?(?:unsafe )?(?P<kind>trait|impl)\b")
@@ -113,10 +114,9 @@ def calls_of(crate, text):
 
 def calls(crates):
     """All such calls of the libraries among the crates."""
-    for crate in sorted(Path(crates).iterdir()):
-        if is_library(crate):
-            for file in sorted(crate.glob("src/**/*.rt")):
-                yield from calls_of(crate.name, file.read_text(encoding="utf-8"))
+    for crate in libraries(Path(crates)):
+        for file in sorted(crate.glob("src/**/*.rt")):
+            yield from calls_of(crate.name, file.read_text(encoding="utf-8"))
 
 
 def main(words):
@@ -126,7 +126,8 @@ def main(words):
     silent = [call for call in found if not call.clauses]
     for call in found:
         print(call)
-    print(f"calls that change a value and may fail: {len(found)}, {len(silent)} of them without a clause on the value after an error")
+    number = len(libraries(Path(words[0])))
+    print(f"calls that change a value and may fail: {len(found)} in {number} libraries, {len(silent)} of them without a clause on the value after an error")
     return 1 if silent else 0
 
 

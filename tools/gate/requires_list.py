@@ -27,7 +27,7 @@ from pathlib import Path
 sys.path.insert(0, str(Path(__file__).resolve().parents[1]))
 
 from common import command
-from common.sources import is_library
+from common.sources import libraries
 from gate import after_errors
 from gate.crate_readmes import END, START, calls_and_traits, end_of, masked, next_stop
 
@@ -44,14 +44,6 @@ IN_README = re.compile(
 
 
 # The sources.
-
-def libraries(crates: Path) -> list[Path]:
-    """The libraries in a folder, of which there is one at least."""
-    found = [crate for crate in sorted(crates.iterdir()) if is_library(crate)]
-    if not found:
-        raise command.Refusal(f"{crates} has no library")
-    return found
-
 
 def asking(crate: Path) -> list[str]:
     """The public calls of a library that have a `requires`."""
