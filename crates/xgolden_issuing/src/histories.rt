@@ -1,10 +1,6 @@
 //! Which certificates of issuing histories are accepted at a date.
 //!
-//! ```text
-//! xgolden_histories FILE
-//! ```
-//!
-//! A row has words separated by spaces: a date, and the steps of a history in their order, each as
+//! A vector has a date, and the steps of a history in their order, each as
 //!
 //! ```text
 //! ISSUER,FLAG,LENGTH,FIRST,LAST
@@ -12,34 +8,24 @@
 //!
 //! ISSUER is the index of an earlier step, counted from 0, LENGTH a path length, `-` for none. FLAG
 //! is `ca` or `end`. FIRST, LAST and the date are the contents of a GeneralizedTime. The
-//! certificate of each step is built, written and read, and validated with all its ancestors. A
-//! line is printed for each row: 1 for each step whose certificate is accepted, 0 for each other.
-//! `tools/golden/xgolden_histories.py` makes rows and golden output.
-#![tactic(auto)]
+//! certificate of each step is built, written and read, and validated with all its ancestors. The
+//! line has 1 for each step whose certificate is accepted, 0 for each other.
 
-mod issuing;
+mod certificates;
 mod steps;
 
 use anyhow::{Context, Result, bail};
-use issuing::issue;
+use certificates::issue;
 use names_core::UtcDate;
 use sig_core::DemoScheme;
 use std::alloc::Global;
-use std::env;
-use steps::{Step, date_of, steps_of};
+use steps::{Step, steps_of};
 use x509_core::{Cert, CertError};
-use xgolden::{Line, print_answers};
+use xgolden::{Line, date_of};
 
-fn main(rt: HostRuntime) -> Result<()> {
-    let words: Vec<String> = env::args(&rt)?.skip(1).collect(rt.alloc())?;
-    match words.as_slice() {
-        [path] => print_answers(&rt, path.as_str(), text_of),
-        _ => bail!("usage: xgolden_histories FILE"),
-    }
-}
-
-fn text_of(alloc: Global, row: &str) -> Result<String> {
-    let (date, steps) = row.split_once(' ').context("a row has a date and steps")?;
+/// The output for a vector.
+pub fn answer(alloc: Global, row: &str) -> Result<String> {
+    let (date, steps) = row.split_once(' ').context("a vector has a date and steps")?;
     let date = date_of(date)?;
     let steps = steps_of(alloc, steps)?;
     let certificates = issue(alloc, &steps)?;

@@ -1,6 +1,6 @@
 //! Issuing the certificates of the steps, each with the key of the demonstration for its index.
 
-use crate::steps::Step;
+use crate::histories::steps::Step;
 use anyhow::{Context, Result};
 use demo_core::private_key_of;
 use names_core::DirectoryName;

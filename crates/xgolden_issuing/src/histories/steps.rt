@@ -1,9 +1,9 @@
 //! Parsing steps.
 
-use anyhow::{Context, Result, bail};
-use asn1_types::GeneralizedTime;
+use anyhow::{Result, bail};
 use names_core::UtcDate;
 use std::alloc::Global;
+use xgolden::{ca_flag_of, date_of, length_of};
 
 /// An issuing step.
 #[derive(Drop)]
@@ -31,7 +31,7 @@ fn step_of(parts: &[&str]) -> Result<Step> {
     };
     Ok(Step {
         issuer: index_of(issuer)?,
-        ca: flag_of(flag)?,
+        ca: ca_flag_of(flag)?,
         path_length: length_of(length)?,
         validity: (date_of(first)?, date_of(last)?),
     })
@@ -42,25 +42,4 @@ fn index_of(word: &str) -> Result<Option<usize>> {
         return Ok(None);
     }
     Ok(Some(word.parse()?))
-}
-
-fn length_of(word: &str) -> Result<Option<u8>> {
-    if word == "-" {
-        return Ok(None);
-    }
-    Ok(Some(word.parse()?))
-}
-
-fn flag_of(word: &str) -> Result<bool> {
-    match word {
-        "ca" => Ok(true),
-        "end" => Ok(false),
-        _ => bail!("no flag is written so"),
-    }
-}
-
-/// The moment by the contents of its GeneralizedTime.
-pub fn date_of(word: &str) -> Result<UtcDate> {
-    let time = GeneralizedTime::from_content(word.as_bytes());
-    Ok(UtcDate::from(time.context("no moment is written so")?))
 }

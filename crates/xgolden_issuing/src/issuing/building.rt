@@ -1,8 +1,8 @@
 //! Building certificates.
 
-use crate::printing::{print_name, print_refused};
-use crate::settings::{Setting, settings_of};
-use crate::words::key_of;
+use crate::issuing::printing::{print_name, print_refused};
+use crate::issuing::settings::{Setting, settings_of};
+use crate::issuing::words::key_of;
 use anyhow::{Result, bail};
 use der_core::DerError;
 use key_core::PrivateKey;

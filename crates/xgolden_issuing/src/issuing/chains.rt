@@ -1,14 +1,14 @@
 //! Validating certificates with their parents.
 
-use crate::printing::print_refused;
-use crate::words::{certificate_of, date_of, two_of};
+use crate::issuing::printing::print_refused;
+use crate::issuing::words::{certificate_of, two_of};
 use anyhow::{Context, Result, bail};
 use names_core::UtcDate;
 use sig_core::Scheme;
 use std::alloc::Global;
 use std::slice::Iter;
 use x509_core::{Cert, CertValidator};
-use xgolden::{Line, octets_of};
+use xgolden::{Line, date_of, octets_of};
 
 type Validator<'a> = CertValidator<'a, 'a, Iter<'a, Cert>>;
 

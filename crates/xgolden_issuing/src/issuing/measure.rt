@@ -3,9 +3,9 @@
 
 ghost use Rattle.sig_core.specs.declared.scheme.Verdict.TheVariants.{Accept};
 
-use crate::chains::certificates_of;
-use crate::settings::issued_under;
-use crate::words::{date_of, key_of};
+use crate::issuing::chains::certificates_of;
+use crate::issuing::settings::issued_under;
+use crate::issuing::words::key_of;
 use anyhow::{Result, bail};
 use key_core::PrivateKey;
 use names_core::UtcDate;
@@ -17,7 +17,7 @@ use std::time::CpuClock;
 use x509_core::Cert;
 use x509_issuing::CertificateBuilder;
 use x509_types::KeyUsage;
-use xgolden::print_time;
+use xgolden::{date_of, print_time};
 
 /// A scheme that does no work: it accepts every signature, and signs with fixed octets.
 #[derive(Drop)]

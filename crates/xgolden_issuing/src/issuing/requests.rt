@@ -1,16 +1,15 @@
 //! Requests that are read, verified and generated.
 
-use crate::printing::{print_error, print_name};
-use crate::words::{algorithm_of, attributes_of, key_of, name_of};
+use crate::issuing::printing::{print_error, print_name};
+use crate::issuing::words::{algorithm_of, attributes_of, key_of, name_of};
 use anyhow::{Result, bail};
 use der_core::{DerError, Structure};
 use key_core::PrivateKey;
 use names_core::DirectoryName;
-use request_types::CertificationRequest;
 use sig_core::Scheme;
 use std::alloc::{AllocError, Global};
 use x509_core::CsrError;
-use x509_issuing::Csr;
+use x509_issuing::{CertificationRequest, Csr};
 use xgolden::{Line, equals, gives, gives_octets, octets_of};
 
 /// Prints whether the octets round-trip, the key, the subject and the verdict on the signature; or

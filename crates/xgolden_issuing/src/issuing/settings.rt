@@ -1,7 +1,7 @@
 //! Builder settings, one word for each setter.
 
-use crate::words::{
-    algorithm_of, certificate_of, date_of, kept_of, method_of, name_of, names_of, two_of,
+use crate::issuing::words::{
+    algorithm_of, certificate_of, kept_of, method_of, name_of, names_of, two_of,
 };
 use anyhow::{Context, Result, bail};
 use der_core::{Octets, Structure};
@@ -11,7 +11,7 @@ use std::alloc::{AllocError, Global};
 use x509_core::Cert;
 use x509_issuing::{CertificateBuilder, Csr};
 use x509_types::{ExtendedKeyUsage, KeyUsage};
-use xgolden::{flag_of, octets_of};
+use xgolden::{date_of, flag_of, octets_of};
 
 /// The setting of a call. The issuer's key is passed when it is applied.
 #[derive(Drop)]

@@ -1,20 +1,14 @@
 //! Parsing words.
 
 use anyhow::{Context, Result, bail};
-use asn1_types::GeneralizedTime;
 use der_core::{Octets, Structure};
 use key_core::{KeyIdGenMethod, PrivateKey, SignatureAlgorithm};
-use names_core::{DirectoryName, GeneralNames, UtcDate};
-use sig_core::{DemoScheme, HashAlgorithm, VerdictTable};
+use names_core::{DirectoryName, GeneralNames};
+use sig_core::DemoScheme;
 use std::alloc::Global;
 use x509_core::Cert;
 use x509_types::{Attribute, AttributeList, Name, RawGeneralNames};
-use xgolden::octets_of;
-
-pub fn table_of(alloc: Global, word: &str) -> Result<VerdictTable> {
-    let text = octets_of(alloc, word)?;
-    Ok(VerdictTable::parse(alloc, &text)?)
-}
+use xgolden::{digest_of, octets_of};
 
 /// A private key. A public key that isn't in it is derived by the demonstration scheme.
 pub fn key_of(alloc: Global, word: &str) -> Result<PrivateKey> {
@@ -56,11 +50,6 @@ fn attribute_of(alloc: Global, word: &str) -> Result<Attribute> {
     Ok(Attribute::from_der(alloc, &octets)?)
 }
 
-pub fn date_of(word: &str) -> Result<UtcDate> {
-    let time = GeneralizedTime::from_content(word.as_bytes());
-    Ok(UtcDate::from(time.context("no moment is written so")?))
-}
-
 /// Two words, separated by a comma.
 pub fn two_of(word: &str) -> Result<(&str, &str)> {
     word.split_once(',')
@@ -70,8 +59,8 @@ pub fn two_of(word: &str) -> Result<(&str, &str)> {
 /// An algorithm as `rsa` or `ecdsa`, a colon and its digest, or as `ed25519`.
 pub fn algorithm_of(word: &str) -> Result<SignatureAlgorithm> {
     match word.split_once(':') {
-        Some(("rsa", hash)) => Ok(SignatureAlgorithm::RsaPkcs1v15(hash_of(hash)?)),
-        Some(("ecdsa", hash)) => Ok(SignatureAlgorithm::Ecdsa(hash_of(hash)?)),
+        Some(("rsa", hash)) => Ok(SignatureAlgorithm::RsaPkcs1v15(digest_of(hash)?)),
+        Some(("ecdsa", hash)) => Ok(SignatureAlgorithm::Ecdsa(digest_of(hash)?)),
         None if word == "ed25519" => Ok(SignatureAlgorithm::Ed25519),
         _ => bail!("no algorithm of signatures is called so"),
     }
@@ -80,17 +69,8 @@ pub fn algorithm_of(word: &str) -> Result<SignatureAlgorithm> {
 /// How key identifiers are generated, as `whole` or `leftmost`, a colon and the digest.
 pub fn method_of(word: &str) -> Result<KeyIdGenMethod> {
     match word.split_once(':') {
-        Some(("whole", hash)) => Ok(KeyIdGenMethod::SPKFullDER(hash_of(hash)?)),
-        Some(("leftmost", hash)) => Ok(KeyIdGenMethod::SPKValueHashedLeftmost160(hash_of(hash)?)),
+        Some(("whole", hash)) => Ok(KeyIdGenMethod::SPKFullDER(digest_of(hash)?)),
+        Some(("leftmost", hash)) => Ok(KeyIdGenMethod::SPKValueHashedLeftmost160(digest_of(hash)?)),
         _ => bail!("no identifier of a key is made so"),
     }
-}
-
-fn hash_of(name: &str) -> Result<HashAlgorithm> {
-    for hash in HashAlgorithm::ALL {
-        if hash.name() == name {
-            return Ok(hash);
-        }
-    }
-    bail!("no digest algorithm is called so")
 }
