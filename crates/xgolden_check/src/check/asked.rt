@@ -1,14 +1,12 @@
 //! A policy and a change of the file: words separated by commas.
 
-use crate::lists::{ListWords, list_words_of, names_of};
-use anyhow::{Context, Result, bail};
-use asn1_types::GeneralizedTime;
+use crate::check::lists::{ListWords, list_words_of, names_of};
+use anyhow::{Result, bail};
 use authenticode_core::{CertificateTrustList, Policy};
 use der_core::Octets;
-use names_core::UtcDate;
 use std::alloc::Global;
 use x509_core::DateCheck;
-use xgolden::octets_of;
+use xgolden::{date_of, octets_of};
 
 /// What is asked, in words: of the policy, and the change of the file, `-` for none.
 #[derive(Clone, Copy)]
@@ -92,18 +90,13 @@ fn dates_of(lower: &str, upper: &str) -> Result<DateCheck> {
     if lower == "-" {
         return Ok(DateCheck::Absent);
     }
-    let first = moment_of(lower)?;
+    let first = date_of(lower)?;
     if upper == "-" {
         return Ok(DateCheck::Exact(first));
     }
-    let last = moment_of(upper)?;
+    let last = date_of(upper)?;
     Ok(DateCheck::Interval {
         lower: first,
         upper: last,
     })
-}
-
-fn moment_of(word: &str) -> Result<UtcDate> {
-    let time = GeneralizedTime::from_content(word.as_bytes()).context("reading a moment")?;
-    Ok(UtcDate::from(time))
 }

@@ -1,19 +1,13 @@
 //! The indices of the certificates of signed data: the signer's and its issuers'.
 //!
-//! ```text
-//! xgolden_path FILE
-//! ```
-//!
-//! Each line of FILE is signed data in hexadecimal. `tools/golden/xgolden_path.py` makes such a
-//! file, and its golden output: the number of certificates, the index of the signer's as the check
-//! reports it, and the indices of the issuer walk, those that aren't on the issuer path in
-//! parentheses.
-#![tactic(auto)]
+//! A vector is signed data in hexadecimal. The line has the number of certificates, the index of the
+//! signer's as the check reports it, and the indices of the issuer walk, those that aren't on the
+//! issuer path in parentheses.
 
 ghost use Rattle.cms_types.specs.SignedView.{IsSignedView};
 ghost use Rattle.der_core.specs.DerElement.{DerElement};
 
-use anyhow::{Context, Result};
+use anyhow::Result;
 use authenticode_core::{
     BagCertificate, Policy, certificate_bag, check_signed_data, issuer_walk_of,
 };
@@ -21,26 +15,12 @@ use cms_types::SignedView;
 use der_core::{is_same, whole_element};
 use sig_core::DemoScheme;
 use std::alloc::Global;
-use std::io::{BufWriter, Write};
-use std::{env, fs, io};
+use xgolden::octets_of;
 
-fn main(rt: HostRuntime) -> Result<()> {
-    let words: Vec<String> = env::args(&rt)?.skip(1).collect(rt.alloc())?;
-    let path = words.first().context("no file of rows is named")?;
-    let rows = fs::read_to_string(&rt, path)?;
-    let mut out = BufWriter::new(rt.alloc(), io::writer(&rt))?;
-    print_answers(rt.alloc(), &rows, &mut out)?;
-    out.flush()?;
-    Ok(())
-}
-
-fn print_answers(alloc: Global, rows: &str, out: &mut impl Write) -> Result<()> {
-    for row in rows.lines() {
-        let octets = hex::decode(alloc, row)?;
-        let answer = answer_of(alloc, &octets)?;
-        out.write_all(answer.as_bytes())?;
-    }
-    Ok(())
+/// The line for a vector.
+pub fn answer(alloc: Global, row: &str) -> Result<String> {
+    let octets = octets_of(alloc, row)?;
+    answer_of(alloc, &octets)
 }
 
 fn answer_of(alloc: Global, octets: &[u8]) -> Result<String> {
@@ -49,7 +29,7 @@ fn answer_of(alloc: Global, octets: &[u8]) -> Result<String> {
             return places_of(alloc, &signed_data);
         }
     }
-    Ok(format!(in alloc; "no signed data\n")?)
+    Ok(format!(in alloc; "no signed data")?)
 }
 
 /// The line with the indices for signed data.
@@ -58,7 +38,7 @@ fn places_of(alloc: Global, signed_data: &SignedView<'_>) -> Result<String>
 {
     let count = certificate_bag(signed_data).count();
     let Some(signer) = signer_of(alloc, signed_data) else {
-        return Ok(format!(in alloc; "{count}\n")?);
+        return Ok(format!(in alloc; "{count}")?);
     };
     let mut line = format!(in alloc; "{count} {}:", signer.place)?;
     let mut walk = issuer_walk_of(signed_data, &signer.certificate);
@@ -66,7 +46,6 @@ fn places_of(alloc: Global, signed_data: &SignedView<'_>) -> Result<String>
         let word = walk_word(alloc, &signer, &next)?;
         line.push_str(&word)?;
     }
-    line.push_str("\n")?;
     Ok(line)
 }
 

@@ -1,6 +1,6 @@
 //! The same check on the owned signature of a file.
 
-use crate::line::answer_line;
+use crate::check::line::answer_line;
 use anyhow::Result;
 use authenticode_core::{Accepted, CertificateTrustList, CheckError, DateCheck, Policy};
 use authenticode_signature::{AuthenticodeSignature, AuthenticodeValidator};

@@ -1,19 +1,20 @@
 //! A case, and its output.
 
-use crate::line::{accepted_line, refused_line};
-use anyhow::{Result, bail};
+use crate::basic::line::{accepted_line, refused_line};
+use crate::change::changed;
+use anyhow::Result;
 use authenticode_core::{Accepted, CheckError, Policy, check_wincert};
 use der_core::Octets;
 use names_core::NameList;
 use sig_core::VerdictTable;
 use std::alloc::Global;
 use x509_core::DateCheck;
-use xgolden::octets_of;
+use xgolden::{octets_of, table_of};
 
 /// A signature file, its policy, and a verdict table.
 #[derive(Drop)]
 pub struct Case {
-    pub file: Vec<u8>,
+    file: Vec<u8>,
     policy: Policy<'static>,
     table: VerdictTable,
 }
@@ -46,13 +47,13 @@ fn policy_of(alloc: Global, word: &str) -> Result<Policy<'static>> {
     })
 }
 
-fn table_of(alloc: Global, word: &str) -> Result<VerdictTable> {
-    let text = octets_of(alloc, word)?;
-    Ok(VerdictTable::parse(alloc, &text)?)
+/// The line for the file of a case.
+pub fn answer_to_file(alloc: Global, case: &Case) -> Result<String> {
+    answer(alloc, case, &case.file)
 }
 
 /// The line for the result for a file in a case.
-pub fn answer(alloc: Global, case: &Case, file: &[u8]) -> Result<String> {
+fn answer(alloc: Global, case: &Case, file: &[u8]) -> Result<String> {
     line_of(
         alloc,
         &check_wincert(alloc, file, &case.policy, &case.table),
@@ -69,20 +70,6 @@ fn line_of(alloc: Global, answer: &Result<Accepted, CheckError>) -> Result<Strin
 
 /// The line for the result for the file with a change.
 pub fn answer_to_change(alloc: Global, case: &Case, change: &str) -> Result<String> {
-    let file = changed(alloc, &case.file, &octets_of(alloc, change)?)?;
+    let file = changed(alloc, &case.file, change)?;
     answer(alloc, case, &file)
-}
-
-/// A copy of a file with another octet at the offset that a change names.
-fn changed(alloc: Global, file: &[u8], change: &[u8]) -> Result<Vec<u8>> {
-    let [high, low, octet] = change else {
-        bail!("a change has three octets");
-    };
-    let place = usize::from(u16::from_be_bytes([*high, *low]));
-    let mut copy = Vec::from_slice(alloc, file)?;
-    let Some(there) = copy.get_mut(place) else {
-        bail!("no octet is at the offset of a change");
-    };
-    *there = *octet;
-    Ok(copy)
 }

@@ -1,6 +1,6 @@
 use Rattle.std.proofs.Common.{length}
 use Rattle.authenticode_core.specs.LeftMembers.{left_members}
-use Rattle.xgolden_path.proofs.certificate_at.Given as goal
+use Rattle.xgolden_check.proofs.path.certificate_at.Given as goal
 
 -- each certificate that is yielded leaves fewer members
 abbrev pub decreases-loop-next : goal.decreases-loop-next
