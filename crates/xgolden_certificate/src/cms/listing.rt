@@ -1,7 +1,6 @@
 //! Names on trust lists.
 
 use cms_content::{ListingError, expect_listed};
-use cms_content::{ListingError, expect_listed};
 use cms_types::Ctl;
 use der_core::{DerError, Structure};
 use std::alloc::Global;

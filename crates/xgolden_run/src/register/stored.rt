@@ -5,7 +5,7 @@ ghost use Rattle.sig_core.specs.VerdictTable.{verdict_of};
 use anyhow::{Context, Result};
 use sig_core::{HashAlgorithm, Scheme, SchemeError, SchemeKind, SigAlg, Verdict, VerdictTable};
 use std::alloc::{AllocError, Global};
-use xgolden::octets_of;
+use xgolden::{octets_of, table_of};
 
 /// The verdicts of a table, and signatures that another program made.
 #[derive(Drop)]
@@ -24,7 +24,7 @@ struct Signature {
 impl Stored {
     /// The scheme for the text of a table, and for signatures, commas between.
     pub fn of(alloc: Global, table: &str, signatures: &str) -> Result<Stored> {
-        let table = VerdictTable::parse(alloc, &octets_of(alloc, table)?)?;
+        let table = table_of(alloc, table)?;
         let mut stored = Vec::new(alloc);
         for word in signatures.split(',') {
             stored.push(signature_of(alloc, word)?)?;

@@ -1,10 +1,9 @@
-//! Parsing the calls of a row.
+//! Parsing the calls of a vector.
 
-use anyhow::{Context, Result, bail};
-use asn1_types::GeneralizedTime;
+use anyhow::{Result, bail};
 use ca_register::Grant;
-use names_core::UtcDate;
 use std::alloc::Global;
+use xgolden::{ca_flag_of, date_of, length_of};
 
 /// What is issued.
 #[derive(Clone, Copy)]
@@ -49,7 +48,7 @@ pub fn call_of(alloc: Global, word: &str) -> Result<Call> {
         issuer: issuer.parse()?,
         signer: signer.parse()?,
         grant: Grant {
-            ca: flag_of(flag)?,
+            ca: ca_flag_of(flag)?,
             path_length: length_of(length)?,
             from: date_of(first)?,
             to: date_of(last)?,
@@ -66,25 +65,4 @@ fn kind_of(word: &str) -> Result<Kind> {
         "unread" => Ok(Kind::Unread),
         _ => bail!("no kind is written so"),
     }
-}
-
-fn length_of(word: &str) -> Result<Option<u8>> {
-    if word == "-" {
-        return Ok(None);
-    }
-    Ok(Some(word.parse()?))
-}
-
-fn flag_of(word: &str) -> Result<bool> {
-    match word {
-        "ca" => Ok(true),
-        "end" => Ok(false),
-        _ => bail!("no flag is written so"),
-    }
-}
-
-/// The moment by the contents of its GeneralizedTime.
-pub fn date_of(word: &str) -> Result<UtcDate> {
-    let time = GeneralizedTime::from_content(word.as_bytes());
-    Ok(UtcDate::from(time.context("no moment is written so")?))
 }

@@ -1,17 +1,26 @@
-//! What is asked of a signature file under many policies.
+//! Which signatures `check_wincert` asks a scheme about, under many policies, and whether each is
+//! one of the questions that `picky_ask` lists.
+//!
+//! A vector has a signature file in hexadecimal; a verdict table with `:` for each space and `;` for
+//! each newline, `-` for none; the digest of the file, `-` for none; dates as `20250101000000Z` and
+//! intervals with `-` between both ends, separated by commas; a trust list in hexadecimal, and the
+//! time for it in seconds since 1601. The file is checked at each date under each choice of basic
+//! validation, the signer, both ends of validities, the chain and the trust list, by the table and
+//! by a scheme that accepts every signature. The line has how many questions there are, how many
+//! different ones were asked of the table, how many of these are others, and the same of the other
+//! scheme.
 
-use crate::recorder::Recorder;
+mod recorder;
+
 use anyhow::{Context, Result, bail};
-use asn1_types::GeneralizedTime;
 use authenticode_core::{CertificateTrustList, Policy, check_wincert};
 use der_core::Octets;
-use names_core::UtcDate;
 use program_frame::{MemShelf, MemSink};
-use sig_core::VerdictTable;
+use recorder::Recorder;
 use signature_questions::run;
 use std::alloc::Global;
 use x509_core::DateCheck;
-use xgolden::octets_of;
+use xgolden::{date_of, line_table_of, octets_of};
 
 /// The room for the lines of the questions about a file.
 const MOST_HELD: usize = 1_048_576;
@@ -29,7 +38,7 @@ struct Ways<'a> {
 }
 
 /// The line for a vector.
-pub fn asked_about(alloc: Global, row: &str) -> Result<String> {
+pub fn answer(alloc: Global, row: &str) -> Result<String> {
     let words: Vec<&str> = row.split(' ').collect(alloc)?;
     let [file, table, hash, dates, list, now] = words.as_slice() else {
         bail!("a vector has a file, a table, a digest, dates, a trust list and a time");
@@ -60,25 +69,11 @@ fn counts_under(
     accepts: bool,
     table: &str,
 ) -> Result<(usize, usize)> {
-    let recorder = Recorder::over(alloc, accepts, table_of(alloc, table)?);
+    let recorder = Recorder::over(alloc, accepts, line_table_of(alloc, table)?);
     for date in ways.dates.split(',') {
         check_under_all(alloc, file, ways, date, &recorder)?;
     }
     recorder.counts(listed)
-}
-
-fn table_of(alloc: Global, word: &str) -> Result<VerdictTable> {
-    let mut text = String::new(alloc);
-    if word != "-" {
-        for octet in word.chars() {
-            match octet {
-                ':' => text.push(' ')?,
-                ';' => text.push('\n')?,
-                _ => text.push(octet)?,
-            }
-        }
-    }
-    Ok(VerdictTable::parse(alloc, text.as_bytes())?)
 }
 
 /// The questions that `picky_ask` lists, each as the recorder has it.
@@ -161,9 +156,4 @@ fn dates_of(word: &str) -> Result<DateCheck> {
         lower: date_of(lower)?,
         upper: date_of(upper)?,
     })
-}
-
-fn date_of(word: &str) -> Result<UtcDate> {
-    let time = GeneralizedTime::from_content(word.as_bytes()).context("a date has 15 octets")?;
-    Ok(UtcDate::from(time))
 }

@@ -1,6 +1,6 @@
 //! The calls of a register, each with the key of the demonstration for its number.
 
-use crate::calls::{Call, Kind};
+use crate::register::calls::{Call, Kind};
 use anyhow::{Context, Result};
 use ca_register::{IssueError, Register};
 use demo_core::private_key_of;

@@ -1,16 +1,16 @@
 //! Registers that enrol requests of another program, under keys and signatures of that program.
 
-use crate::calls::{Call, Kind, call_of, date_of};
-use crate::printing::{print_answer, print_marks};
-use crate::registering::name_of;
-use crate::stored::Stored;
+use crate::register::calls::{Call, Kind, call_of};
+use crate::register::printing::{print_answer, print_marks};
+use crate::register::registering::name_of;
+use crate::register::stored::Stored;
 use anyhow::{Context, Result, bail};
 use ca_register::{IssueError, Register};
 use key_core::PrivateKey;
 use names_core::UtcDate;
 use sig_core::DemoScheme;
 use std::alloc::Global;
-use xgolden::{Line, octets_of};
+use xgolden::{Line, date_of, octets_of};
 
 /// Prints the line for a row, after its first word.
 pub fn print(alloc: Global, words: &str, line: &mut Line) -> Result<()> {

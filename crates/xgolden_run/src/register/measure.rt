@@ -1,11 +1,12 @@
 //! Timing the calls of a register, for `bench/register/register.py`.
 
-use crate::calls::{calls_of, date_of};
-use crate::registering::register_of;
+use crate::register::calls::calls_of;
+use crate::register::registering::register_of;
 use anyhow::{Context, Result, bail};
 use std::alloc::Global;
 use std::io::Write;
 use std::time::CpuClock;
+use xgolden::date_of;
 
 /// Prints the number of certificates, then nanoseconds: of making the register, of `usable` of the
 /// last place, this often, and of verifying each certificate at the date; then how many were

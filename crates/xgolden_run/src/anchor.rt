@@ -1,10 +1,6 @@
-//! Output for a file of test vectors about paths to trust anchors.
+//! Paths to trust anchors.
 //!
-//! ```text
-//! xgolden_anchor FILE
-//! ```
-//!
-//! A vector has words separated by spaces:
+//! A vector has these words:
 //!
 //! ```text
 //! PURPOSE DATE ANCHOR,.. CERTIFICATE POOL,..
@@ -12,31 +8,20 @@
 //!
 //! PURPOSE is `code` or `time`, DATE the contents of a GeneralizedTime. An anchor is `code`,
 //! `time`, `code+time` or `neither`, a colon and its octets. Octets are in hexadecimal, `-` is no
-//! anchors or an empty pool. A line is printed for each vector: the path that is found, or none. `tools/golden/xgolden_anchor.py` makes vectors and golden output.
-#![tactic(auto)]
+//! anchors or an empty pool. The line has the path that is found, or `none`.
 
 use anyhow::{Context, Result, bail};
-use asn1_types::GeneralizedTime;
-use names_core::UtcDate;
 use sig_core::DemoScheme;
 use std::alloc::Global;
-use std::env;
 use trust_anchors::{AnchorError, AnchorStore, AnchoredPath, Purpose};
 use x509_core::Cert;
-use xgolden::{octets_of, print_answers};
+use xgolden::{date_of, octets_of};
 
-fn main(rt: HostRuntime) -> Result<()> {
-    let words: Vec<String> = env::args(&rt)?.skip(1).collect(rt.alloc())?;
-    match words.as_slice() {
-        [path] => print_answers(&rt, path.as_str(), text_of),
-        _ => bail!("usage: xgolden_anchor FILE"),
-    }
-}
-
-fn text_of(alloc: Global, row: &str) -> Result<String> {
+/// The line for a vector.
+pub fn answer(alloc: Global, row: &str) -> Result<String> {
     let words: Vec<&str> = row.split(' ').collect(alloc)?;
     let [purpose, date, anchors, certificate, pool] = words.as_slice() else {
-        bail!("a row has five words");
+        bail!("a vector has five words");
     };
     let anchors = anchors_of(alloc, anchors)?;
     let certificate = certificate_of(alloc, certificate)?;
@@ -122,9 +107,4 @@ fn pool_of(alloc: Global, words: &str) -> Result<Vec<Cert>> {
 fn certificate_of(alloc: Global, word: &str) -> Result<Cert> {
     let octets = octets_of(alloc, word)?;
     Ok(Cert::from_der(alloc, &octets)?)
-}
-
-fn date_of(word: &str) -> Result<UtcDate> {
-    let time = GeneralizedTime::from_content(word.as_bytes());
-    Ok(UtcDate::from(time.context("no moment is written so")?))
 }
