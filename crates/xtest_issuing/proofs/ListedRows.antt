@@ -10,9 +10,9 @@ use Rattle.x509_core.specs.History.{History}
 use Rattle.x509_core.specs.Issued.{HasCert, IsOneOf, IsSealed, IsSignedUnder}
 use Rattle.x509_core.specs.KeptCertificate.{KeptCertificate}
 use Rattle.x509_types.specs.TbsElements.{tbs_of}
-use Rattle.xtest_histories.specs.Listed.{AreListed, HasKeyBytes, HaveOwnKeys, IsListed}
-use Rattle.xtest_histories.specs.WholeRow.{is_row_of, verdict_of}
-use Rattle.xtest_histories.specs.declared.whole_rows.WholeRow.{WholeRow}
+use Rattle.xtest_issuing.specs.Listed.{AreListed, HasKeyBytes, HaveOwnKeys, IsListed}
+use Rattle.xtest_issuing.specs.WholeRow.{is_row_of, verdict_of}
+use Rattle.xtest_issuing.specs.declared.whole_rows.WholeRow.{WholeRow}
 
 accepts : (test : Bool) → (if test then Accept else Reject) ≡ Accept → test ≡ true
 accepts true e = refl

@@ -2,7 +2,7 @@
 
 ghost use Rattle.std.specs.Prelude.{◌≡◌, [], ◌∷◌, ◌++◌, OnErr, OnOk};
 ghost use Rattle.std.specs.List.{list_any};
-ghost use Rattle.xtest_histories.specs.WholeRow.{is_row_of, row_of, verdict_of};
+ghost use Rattle.xtest_issuing.specs.WholeRow.{is_row_of, row_of, verdict_of};
 
 use der_core::Octets;
 use sig_core::{Scheme, SchemeError, SchemeKind, SigAlg, Verdict};

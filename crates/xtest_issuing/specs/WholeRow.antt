@@ -5,7 +5,7 @@ use Rattle.key_core.specs.Verifying.{Judge}
 use Rattle.sig_core.specs.Algorithm.{name_of}
 use Rattle.sig_core.specs.declared.algorithm.SigAlg.{SigAlg}
 use Rattle.sig_core.specs.declared.scheme.Verdict.TheVariants.{Accept, Reject}
-use Rattle.xtest_histories.specs.declared.whole_rows.WholeRow.{WholeRow}
+use Rattle.xtest_issuing.specs.declared.whole_rows.WholeRow.{WholeRow}
 
 -- the row of a signature
 abbrev pub row_of : SigAlg → (key msg sig : List ℕ) → WholeRow

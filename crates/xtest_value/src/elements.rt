@@ -41,7 +41,7 @@ const DEEPEST: &str =
 
 #[test]
 fn a_tree_of_65_levels_is_not_written(rt: HostRuntime) -> Result<(), Fail> {
-    let octets = crate::signature::octets(rt.alloc(), &[DEEPEST])?;
+    let octets = hex::decode(rt.alloc(), DEEPEST)?;
     let deepest = read_exact(rt.alloc(), &octets)?;
     assert!(rt; write(rt.alloc(), &deepest)?.as_slice() == octets.as_slice());
     assert!(rt; Raw::from_tree(rt.alloc(), &deepest)?.nesting() == 64);

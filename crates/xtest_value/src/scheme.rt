@@ -1,7 +1,7 @@
 //! A scheme of three rows.
 
 ghost use Rattle.std.specs.Prelude.{◌≡◌};
-ghost use Rattle.xtest_signature.specs.ThreeRows.{is_asked, row_verdict};
+ghost use Rattle.xtest_value.specs.ThreeRows.{is_asked, row_verdict};
 
 use der_core::Octets;
 use sig_core::{Scheme, SchemeError, SchemeKind, SigAlg, Verdict};

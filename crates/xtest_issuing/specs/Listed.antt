@@ -8,7 +8,7 @@ use Rattle.x509_core.specs.History.{History}
 use Rattle.x509_core.specs.Issued.{HasCert, IsSignedUnder}
 use Rattle.x509_core.specs.KeptCertificate.{KeptCertificate}
 use Rattle.x509_core.specs.Link.{HasKey, signed_octets}
-use Rattle.xtest_histories.specs.declared.whole_rows.WholeRow.{WholeRow}
+use Rattle.xtest_issuing.specs.declared.whole_rows.WholeRow.{WholeRow}
 
 -- A scheme knows the key of the certificate by these octets, under some algorithm.
 pub record HasKeyBytes (cert : KeptCertificate) (bytes : List ℕ) : Type 0 where
