@@ -2,9 +2,7 @@
 
 use crate::line::Line;
 use asn1_types::Ia5String;
-use x509_types::{
-    DirectoryString, EdiPartyName, OtherName, RawGeneralName, RawGeneralNames, Time,
-};
+use x509_types::{DirectoryString, EdiPartyName, OtherName, RawGeneralName, RawGeneralNames, Time};
 
 /// The form of a Time, and its date.
 pub fn print_time_form(time: &Time, line: &mut Line) {

@@ -25,6 +25,6 @@ pub use row::{Args, Row};
 pub use unanswered::Unanswered;
 pub use values::{are_equal, comes_back, equals, gives, gives_octets, value_of};
 pub use words::{
-    ca_flag_of, date_of, digest_of, flag_of, length_of, line_table_of, number_of, octets_of, table_of,
-    text_of, word_of,
+    ca_flag_of, date_of, digest_of, flag_of, length_of, line_table_of, number_of, octets_of,
+    table_of, text_of, word_of,
 };

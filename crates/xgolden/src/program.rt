@@ -4,9 +4,9 @@ use crate::line::Line;
 use crate::row::{Args, Row};
 use anyhow::{Result, bail};
 use std::alloc::Global;
+use std::env::{self, Env};
 use std::fs::Files;
 use std::io::{BufWriter, Write};
-use std::env::{self, Env};
 use std::{fs, io};
 
 /// The words of the command line after the program's name.

@@ -25,7 +25,9 @@ use xgolden::{Line, date_of};
 
 /// The output for a vector.
 pub fn answer(alloc: Global, row: &str) -> Result<String> {
-    let (date, steps) = row.split_once(' ').context("a vector has a date and steps")?;
+    let (date, steps) = row
+        .split_once(' ')
+        .context("a vector has a date and steps")?;
     let date = date_of(date)?;
     let steps = steps_of(alloc, steps)?;
     let certificates = issue(alloc, &steps)?;
