@@ -71,7 +71,8 @@ def main(arguments):
     if complaints:
         return 1
     for crate in crates:
-        stored_run.write_files(stored_files(crate), Path(folder, crate))
+        args = {"args": stored_run.args_of(CRATES[crate])} if crate in CRATES else {}
+        stored_run.write_files(stored_files(crate) | args, Path(folder, crate))
     return 0
 
 

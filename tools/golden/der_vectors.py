@@ -8,4 +8,4 @@ def stored_files():
     """The octets of each file, by its path below the folder."""
     cases = case_file(bytes.fromhex(row.octets) for row in ROWS)
     lines = "".join(f"{row.first} {row.exact} {row.cursor}\n" for row in ROWS)
-    return {"data/cases.bin": cases, "stdout": lines.encode("ascii"), "args": b"cases\ncases.bin\n"}
+    return {"data/cases.bin": cases, "stdout": lines.encode("ascii")}

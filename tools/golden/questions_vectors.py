@@ -7,7 +7,7 @@ Usage:
 
 A vector has a signature file of `check_vectors` with its table, the digest that is asked for, dates and intervals,
 those of its policies there and one more of each, and a trust list with the time for it, one of its policies or an
-empty one.  Of the files each eighth is stored; `--all` writes FOLDER/data/questions, FOLDER/stdout and FOLDER/args of
+empty one.  Of the files each eighth is stored; `--all` writes FOLDER/data/questions and FOLDER/stdout of
 every one, for a run that isn't stored.
 
 How many questions there are is what `question_judge` lists; how many are asked is how

@@ -29,7 +29,12 @@ def stored_files(kinds):
     files = {f"data/{kind}": text_of(vectors.rows).encode() for kind, vectors in kinds.items()}
     # Nothing is printed as an empty line but the one between two kinds.
     printed = "\n".join(text_of(vectors.lines) for vectors in kinds.values())
-    return {**files, "stdout": printed.encode(), "args": text_of(word for kind in kinds for word in (kind, kind)).encode()}
+    return {**files, "stdout": printed.encode()}
+
+
+def args_of(kinds):
+    """The file with the words that a golden program is called with: each kind and its file, which has the same name."""
+    return text_of(word for kind in kinds for word in (kind, kind)).encode()
 
 
 def stored(crate, kind):
