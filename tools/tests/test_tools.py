@@ -35,7 +35,7 @@ from common import folders
 from common.openssl import OpensslError, openssl
 from gate import run_program, unused_calls
 from golden import (
-    compare_basic, compare_check, compare_readers, reader_stand_in, basic_vectors, check_vectors, kept_vectors, path_vectors,
+    basic_vectors, check_vectors, compare_basic, compare_check, compare_readers, kept_vectors, path_vectors, reader_stand_in,
 )
 from golden.compare_readers import Comparison, block_line, case_file, cases_of, inputs, spelled
 from interop import certificate_parts, chains, oid_table, signed_files, signed_images, signed_programs, world_certificates, world_signatures
@@ -645,7 +645,7 @@ import sys
 sys.path.insert(0, {tools!r})
 from judges.basic_judge import answer
 octets = lambda word: b"" if word == "-" else bytes.fromhex(word)
-for line in open(sys.argv[1]):
+for line in open(sys.argv[2]):
     file, file_hash, table = map(octets, line.split())
     print(answer(file, file_hash, table.decode()){changed})
 """
@@ -680,7 +680,7 @@ class CompareCheckTest(unittest.TestCase):
             made.extend(compare_basic.cases(*words))
             return made
 
-        lines = lambda _, rows: [judge(*one) for one in made]
+        lines = lambda _, kind, rows: [judge(*one) for one in made]
         with patch("golden.compare_check.cases", cases), patch("golden.compare_basic.printed", lines), patch("builtins.print") as printed:
             return compare_check.main(["--count", "50", sys.executable]), printed.call_args.args[0]
 
