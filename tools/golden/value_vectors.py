@@ -572,7 +572,7 @@ def stored_signer():
 
 
 def signed_content_rows():
-    """The rows of `xgolden_cms`: what Authenticode signs, texts of Authenticode, digest algorithms."""
+    """The rows of `xgolden_certificate`: what Authenticode signs, texts of Authenticode, digest algorithms."""
     for rows, is_read in (cms_rows.READ, True), (cms_rows.REFUSED, False):
         for kind, elements in rows:
             for element, _ in elements:
