@@ -30,8 +30,8 @@ TOPS = "bench", "bindings", "crates", "docs", "man", "tools"
 
 def documents() -> list[Path]:
     """The documents of the repository."""
-    top = folders.ROOT
-    return sorted([*top.glob("*.md"), *top.glob("docs/*.md"), *top.glob("bindings/*.md"), *top.glob("crates/*/README.md")])
+    patterns = "*.md", "docs/*.md", "bindings/*.md", "crates/*/README.md"
+    return sorted(path for pattern in patterns for path in folders.ROOT.glob(pattern))
 
 
 def anchor_of(heading: str) -> str:
