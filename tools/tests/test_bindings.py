@@ -1,6 +1,8 @@
 """Tests of the wrappers in `bindings/`, over libraries in C in the place of the proved one.
 
     python3 -m unittest discover -s tools/tests
+
+As in `tools/gate/bindings.py`, a language whose compiler isn't there is left out, and named.
 """
 
 import importlib.util
@@ -59,9 +61,10 @@ def write_kit(folder, word):
     library(folder, "liblibc_c.a", OF_KIT.replace("WORD", word))
 
 
-@unittest.skipUnless(which("cargo"), "cargo isn't there")
 class RustTest(unittest.TestCase):
-    """The crate links what the libraries are now."""
+    """The crate links what the libraries are now, and what a caller of it can write."""
+
+    COMPILER, SECONDS = "cargo", 8
 
     def test_another_library_is_linked_again(self):
         with TemporaryDirectory() as name:
@@ -98,9 +101,10 @@ class RustTest(unittest.TestCase):
                     self.assertEqual(done.returncode == 0, is_compiled, done.stderr)
 
 
-@unittest.skipUnless(which("c++"), "no compiler of C++ is there")
 class CppTest(unittest.TestCase):
     """What a caller in C++ can't write."""
+
+    COMPILER, SECONDS = "c++", 6
 
     def compiled(self, body, standard="c++17"):
         program = f'#include "picky.hpp"\nint main() {{ {body} }}\n'
@@ -149,6 +153,18 @@ class HeadTest(unittest.TestCase):
             with self.subTest(name=name):
                 self.assertIn("is vouched for by nobody", head)
                 self.assertIn("compare the whole line with the one that you expect", head)
+
+
+def load_tests(loader, _, __):
+    """The tests of each language whose compiler is there."""
+    suite = unittest.TestSuite()
+    for one in (HeadTest, PythonTest, CppTest, RustTest):
+        compiler = getattr(one, "COMPILER", None)
+        if compiler and not which(compiler):
+            print(f"{one.__name__} is left out: {compiler} isn't there", file=sys.stderr)
+        else:
+            suite.addTests(loader.loadTestsFromTestCase(one))
+    return suite
 
 
 if __name__ == "__main__":
