@@ -12,8 +12,8 @@ use Rattle.authenticode_core.specs.AuthorityName.{AreAt, HasAuthorityName, IsAut
 use Rattle.authenticode_core.specs.Inside.AuthoritySteps.{IsNameAfter, IsNextName}
 use Rattle.authenticode_core.specs.OthersCursor.{GivesPlaces, IsFirstOf}
 use Rattle.authenticode_core.specs.Places.{StandsAt}
-use Rattle.authenticode_core.specs.declared.path.others.Source.{Source}
-use Rattle.authenticode_core.specs.declared.signer.bag.BagCertificate.{BagCertificate}
+use Rattle.authenticode_core.specs.declared.bag.others.Source.{Source}
+use Rattle.authenticode_core.specs.declared.bag.BagCertificate.{BagCertificate}
 
 -- ---- one certificate
 

@@ -21,7 +21,7 @@ use Rattle.authenticode_core.specs.IssuerWalk.{IsIssuerPath}
 use Rattle.authenticode_core.specs.LinkedPath.{StandAt, AreLinkedAt, IsUnlinkedAt, IsVouchedPath}
 use Rattle.authenticode_core.specs.Places.{StandsAt}
 use Rattle.authenticode_core.specs.declared.path.Linking.{Linking}
-use Rattle.authenticode_core.specs.declared.path.others.Others.{Others}
+use Rattle.authenticode_core.specs.declared.bag.others.Others.{Others}
 
 -- out of memory may be reported whatever else may be
 pub out_of_memory : {A : Type 0} (Good : A → Type 0) (Bad : CertError → Type 0) (r : Result A CertError) (e : CertError) → r ≡ Err e → e ≡ errors.Memory

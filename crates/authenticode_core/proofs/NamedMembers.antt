@@ -20,7 +20,7 @@ use Rattle.authenticode_core.specs.CertificateBag.{IsBag, IsMember}
 use Rattle.authenticode_core.specs.Places.{StandsAt, HasNoPlaceBetween, HasNoPlace, IsLeastPlace}
 use Rattle.authenticode_core.specs.Inside.Naming.{IsFirstOfName, IsNamedAt}
 use Rattle.authenticode_core.specs.SigningRules.{AsksForPurposes}
-use Rattle.authenticode_core.specs.declared.signer.bag.BagCertificate.{BagCertificate}
+use Rattle.authenticode_core.specs.declared.bag.BagCertificate.{BagCertificate}
 use Rattle.authenticode_core.specs.Inside.Wanted.{IsNamedBy}
 use Rattle.authenticode_core.specs.SignedFields.{IsFirstSigner, signers_of}
 use Rattle.authenticode_core.proofs.OneCertificate.{one_certificate}

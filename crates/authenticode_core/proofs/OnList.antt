@@ -9,9 +9,9 @@ use Rattle.der_core.specs.DerElement.{DerElement}
 use Rattle.der_core.specs.Encoding.{encoding}
 use Rattle.der_core.specs.Rules.{IsFirstBroken, IsMet}
 use Rattle.der_core.proofs.RuleLists.{AreMet, AreReturnedOnce, IsReturnedOnce, none_broken, one_broken}
-use Rattle.trust_list.proofs.OneListing.{listed_unbroken, listing_once}
-use Rattle.trust_list.specs.Listing.{listing_rules}
-use Rattle.trust_list.specs.declared.error.ListingError.{ListingError}
+use Rattle.cms_content.proofs.OneListing.{listed_unbroken, listing_once}
+use Rattle.cms_content.specs.Listing.{listing_rules}
+use Rattle.cms_content.specs.declared.listing.error.ListingError.{ListingError}
 use Rattle.authenticode_core.specs.ContentRefusal.{of_ctl}
 use Rattle.authenticode_core.specs.Inside.ListContent.{AreEntriesIn, IsOtherContent}
 use Rattle.authenticode_core.specs.TrustList.{HasEntries, HasNoContent, HasOtherContent, IsNoList, IsOnList, IsUnlisted, content_of, content_rules, name_rules, of_listing}

@@ -13,10 +13,10 @@ use Rattle.authenticode_core.specs.IssuerWalk.{IsWalkFrom, AreOthers}
 use Rattle.authenticode_core.specs.Names.{HasSubject}
 use Rattle.authenticode_core.specs.Places.{StandsAt, IsLeastPlace}
 use Rattle.authenticode_core.specs.WalkCursor.{LooksFrom}
-use Rattle.authenticode_core.specs.declared.path.issuer_walk.IssuerWalk.{IssuerWalk}
-use Rattle.authenticode_core.specs.declared.path.others.Others.{Others}
-use Rattle.authenticode_core.specs.declared.signer.bag.Bag.{Bag}
-use Rattle.authenticode_core.specs.declared.signer.bag.BagCertificate.{BagCertificate}
+use Rattle.authenticode_core.specs.declared.bag.issuer_walk.IssuerWalk.{IssuerWalk}
+use Rattle.authenticode_core.specs.declared.bag.others.Others.{Others}
+use Rattle.authenticode_core.specs.declared.bag.Bag.{Bag}
+use Rattle.authenticode_core.specs.declared.bag.BagCertificate.{BagCertificate}
 use Rattle.authenticode_core.proofs.WalkSteps.{least_once, same_certificate}
 
 -- ---- an issuer walk

@@ -11,9 +11,9 @@ use Rattle.authenticode_core.specs.IssuerWalk.{IsWalkFrom}
 use Rattle.authenticode_core.specs.Places.{StandsAt, HasNoPlace, HasNoPlaceBetween, IsLeastPlace}
 use Rattle.authenticode_core.specs.SigningRules.{AsksForPurposes}
 use Rattle.authenticode_core.specs.WalkCursor.{LooksFrom, StepsTo}
-use Rattle.authenticode_core.specs.declared.path.issuer_walk.IssuerWalk.{IssuerWalk}
-use Rattle.authenticode_core.specs.declared.signer.bag.BagCertificate.{BagCertificate}
-use Rattle.authenticode_core.specs.declared.signer.wanted.Wanted.{Wanted}
+use Rattle.authenticode_core.specs.declared.bag.issuer_walk.IssuerWalk.{IssuerWalk}
+use Rattle.authenticode_core.specs.declared.bag.BagCertificate.{BagCertificate}
+use Rattle.authenticode_core.specs.declared.bag.wanted.Wanted.{Wanted}
 use Rattle.authenticode_core.proofs.PlaceSteps.{none_behind, none_yet}
 use Rattle.authenticode_core.proofs.WalkedPlaces.{Walked, walked_none, walked_step, walked_all}
 

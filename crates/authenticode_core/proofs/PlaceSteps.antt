@@ -9,7 +9,7 @@ use Rattle.authenticode_core.specs.BagCursor.{StandsIn}
 use Rattle.authenticode_core.specs.CertificateBag.{IsBag}
 use Rattle.authenticode_core.specs.LeftMembers.{left_members, BeginsBag}
 use Rattle.authenticode_core.specs.Places.{StandsAt, HasNoPlaceBetween, HasNoPlace}
-use Rattle.authenticode_core.specs.declared.signer.bag.Bag.{Bag}
+use Rattle.authenticode_core.specs.declared.bag.Bag.{Bag}
 use Rattle.authenticode_core.proofs.BagSteps.{one_bag}
 
 pub here : (before others : List CertificateElements) (c : CertificateElements) → StandsAt (before ++ c ∷ others) (length before) c

@@ -16,7 +16,7 @@ use Rattle.authenticode_core.specs.SigningRules.{IsBagOf}
 use Rattle.authenticode_core.specs.declared.error.AuthenticodeError.{AuthenticodeError}
 use Rattle.authenticode_core.specs.declared.error.AuthenticodeError.TheVariants as errors
 use Rattle.authenticode_core.specs.declared.policy.Policy.{Policy}
-use Rattle.authenticode_core.specs.declared.signer.bag.BagCertificate.{BagCertificate}
+use Rattle.authenticode_core.specs.declared.bag.BagCertificate.{BagCertificate}
 use Rattle.authenticode_core.proofs.OneExcuse.{linked_stamp_met}
 
 -- ---- a bag with a certificate for time stamping

@@ -12,7 +12,7 @@ use Rattle.authenticode_core.specs.TrustList.{IsOnList, name_rules}
 use Rattle.authenticode_core.specs.declared.ctl.CertificateTrustList.{CertificateTrustList}
 use Rattle.authenticode_core.specs.declared.error.AuthenticodeError.{AuthenticodeError}
 use Rattle.authenticode_core.specs.declared.policy.Policy.{Policy}
-use Rattle.authenticode_core.specs.declared.signer.bag.Bag.{Bag}
+use Rattle.authenticode_core.specs.declared.bag.Bag.{Bag}
 use Rattle.authenticode_core.proofs.GivenLists.{given_once}
 use Rattle.authenticode_core.proofs.StampSteps.{some_place}
 

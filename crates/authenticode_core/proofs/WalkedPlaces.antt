@@ -13,7 +13,7 @@ use Rattle.authenticode_core.specs.Names.{HasSubject}
 use Rattle.authenticode_core.specs.Places.{IsLeastPlace, StandsAt}
 use Rattle.authenticode_core.specs.SigningRules.{AsksForPurposes}
 use Rattle.authenticode_core.specs.WalkCursor.{LooksFrom, GoesPast}
-use Rattle.authenticode_core.specs.declared.path.issuer_walk.IssuerWalk.{IssuerWalk}
+use Rattle.authenticode_core.specs.declared.bag.issuer_walk.IssuerWalk.{IssuerWalk}
 use Rattle.authenticode_core.proofs.WalkSteps.{one_walk, same_certificate}
 
 -- A certificate at one of the indices has an extended key usage.

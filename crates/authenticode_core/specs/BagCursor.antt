@@ -3,7 +3,7 @@ use Rattle.std.specs.Prelude.{◌≡◌, List, ◌++◌, length}
 use Rattle.x509_types.specs.CertificateElements.{CertificateElements}
 use Rattle.authenticode_core.specs.CertificateBag.{IsBag}
 use Rattle.authenticode_core.specs.LeftMembers.{left_members}
-use Rattle.authenticode_core.specs.declared.signer.bag.Bag.{Bag}
+use Rattle.authenticode_core.specs.declared.bag.Bag.{Bag}
 
 -- The cursor is in this bag: its index is the number of certificates before it, and those behind it
 -- are the bag of the members that are left.

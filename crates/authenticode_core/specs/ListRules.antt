@@ -8,7 +8,7 @@ use Rattle.der_core.specs.Rules.{Rule, IsFirstBroken}
 use Rattle.name_types.specs.Name.{name}
 use Rattle.names_core.specs.Names.{sets_of}
 use Rattle.names_core.specs.declared.name.DirectoryName.{DirectoryName}
-use Rattle.trust_list.specs.First.{HoldsOfSome}
+use Rattle.cms_content.specs.First.{HoldsOfSome}
 use Rattle.x509_types.specs.CertificateElements.{CertificateElements}
 use Rattle.authenticode_core.specs.AuthorityName.{IsNameAt}
 use Rattle.authenticode_core.specs.IssuerWalk.{IsIssuerWalk}

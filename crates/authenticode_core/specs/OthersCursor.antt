@@ -10,11 +10,11 @@ use Rattle.authenticode_core.specs.IssuerWalk.{IsWalkFrom, AreOthers}
 use Rattle.authenticode_core.specs.LeftMembers.{left_members}
 use Rattle.authenticode_core.specs.Places.{StandsAt}
 use Rattle.authenticode_core.specs.WalkCursor.{LooksFrom}
-use Rattle.authenticode_core.specs.declared.path.issuer_walk.IssuerWalk.{IssuerWalk}
-use Rattle.authenticode_core.specs.declared.path.others.Others.{Others}
-use Rattle.authenticode_core.specs.declared.path.others.Source.{Source}
-use Rattle.authenticode_core.specs.declared.path.others.Source.TheVariants as sources
-use Rattle.authenticode_core.specs.declared.signer.bag.Bag.{Bag}
+use Rattle.authenticode_core.specs.declared.bag.issuer_walk.IssuerWalk.{IssuerWalk}
+use Rattle.authenticode_core.specs.declared.bag.others.Others.{Others}
+use Rattle.authenticode_core.specs.declared.bag.others.Source.{Source}
+use Rattle.authenticode_core.specs.declared.bag.others.Source.TheVariants as sources
+use Rattle.authenticode_core.specs.declared.bag.Bag.{Bag}
 
 -- The rest of the walk has these indices.
 pub record WalksOver (walk : IssuerWalk) (bag : List CertificateElements)

@@ -16,9 +16,9 @@ use Rattle.der_core.specs.Rules.{Rule, IsFirstBroken}
 use Rattle.der_core.specs.declared.error.DerError.{DerError}
 use Rattle.der_core.specs.declared.error.DerError.TheVariants as der
 use Rattle.key_core.specs.declared.element.Element.TheVariants as structures
-use Rattle.trust_list.specs.Listing.{IsListed, listing_rules}
-use Rattle.trust_list.specs.declared.error.ListingError.{ListingError}
-use Rattle.trust_list.specs.declared.error.ListingError.TheVariants as listings
+use Rattle.cms_content.specs.Listing.{IsListed, listing_rules}
+use Rattle.cms_content.specs.declared.listing.error.ListingError.{ListingError}
+use Rattle.cms_content.specs.declared.listing.error.ListingError.TheVariants as listings
 use Rattle.x509_core.specs.declared.error.CertError.TheVariants as certs
 use Rattle.authenticode_core.specs.declared.ctl.CertificateTrustList.{CertificateTrustList}
 use Rattle.authenticode_core.specs.declared.ctl_error.CtlError.{CtlError}

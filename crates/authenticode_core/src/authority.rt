@@ -9,7 +9,7 @@ ghost use Rattle.authenticode_core.specs.AuthorityName.{IsNameAt};
 ghost use Rattle.authenticode_core.specs.Inside.AuthoritySteps.{IsNameAfter, IsNextName};
 ghost use Rattle.authenticode_core.specs.OthersCursor.{GivesPlaces};
 
-use crate::path::others::Source;
+use crate::bag::others::Source;
 use x509_core::CertType;
 use x509_types::CertView;
 

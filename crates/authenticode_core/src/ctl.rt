@@ -12,11 +12,13 @@ ghost use Rattle.der_core.specs.Structure.{IsWithin};
 ghost use Rattle.der_core.specs.declared.error.DerError.TheVariants as der_errors;
 ghost use Rattle.der_core.specs.declared.fault.DerFault.{DerFault};
 ghost use Rattle.authenticode_core.specs.Inside.ListContent.{AreEntriesIn, IsOtherContent};
-ghost use Rattle.authenticode_core.specs.TrustList.{HasEntries, IsSignedData, content_rules, unread_list};
+ghost use Rattle.authenticode_core.specs.TrustList.{HasEntries, IsOnList, IsSignedData, content_rules, name_rules, unread_list};
 ghost use Rattle.authenticode_core.specs.declared.ctl_error.CtlError.TheVariants.{IncorrectContentValue};
 
 use crate::ctl_error::CtlError;
+use crate::error::AuthenticodeError;
 use crate::pkcs7_error::Pkcs7Error;
+use cms_content::expect_listed;
 use cms_types::{CTLEntry, ContentValue, Pkcs7Certificate};
 use der_core::{DerError, Structure};
 use key_core::Element;
@@ -88,6 +90,21 @@ impl CertificateTrustList {
             signed: self.signed.try_clone(alloc)?,
         })
     }
+}
+
+/// The name of a CA, given as octets, is on a list at a time. It doesn't allocate.
+pub(crate) fn expect_on_list(
+    list: &CertificateTrustList,
+    name: &[u8],
+    now: i64,
+) -> Result<(), AuthenticodeError>
+    ensures { (ca : DerElement) → name.now ≡ encoding ca
+        → MatchResult result (λ _. IsOnList list.now now ca)
+        (IsFirstBroken (name_rules list.now now ca)) }
+{
+    let entries = list.ctl_entries()?;
+    expect_listed(entries, name, now)?;
+    Ok(())
 }
 
 /// The entries of a content, in order, if it is a trust list.

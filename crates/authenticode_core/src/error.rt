@@ -12,6 +12,7 @@ ghost use Rattle.authenticode_core.specs.declared.error.AuthenticodeError.TheVar
 use crate::ctl_error::CtlError;
 use crate::timestamp_error::TimestampError;
 use asn1_types::{CharSetError, IntegerAsn1};
+use cms_content::ListingError;
 use der_core::{DerError, Octets, write_hexadecimal};
 use key_core::SignatureError;
 use names_core::DirectoryName;
@@ -19,7 +20,6 @@ use sig_core::{UnsupportedAlgorithmError, UnsupportedHashAlgorithmError};
 use std::alloc::{AllocError, AllocFailed, Global};
 use std::fmt::{self, Display};
 use thiserror::Error;
-use trust_list::ListingError;
 use wincert_core::WinCertificateError;
 use x509_core::CertError;
 

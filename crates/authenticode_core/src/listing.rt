@@ -13,21 +13,19 @@ ghost use Rattle.authenticode_core.specs.Inside.PolicySteps.{IsListedAt};
 ghost use Rattle.authenticode_core.specs.Inside.SigningSteps.{HasSigner, HasSignerAt};
 ghost use Rattle.authenticode_core.specs.ListRules.{HasName, HasUntrustedCa, IsExcluded, IsNamed, IsSignerCa, IsTrustedCaOf, ca_rules};
 ghost use Rattle.authenticode_core.specs.SigningRules.{RefusesAuthenticodeBy};
-ghost use Rattle.authenticode_core.specs.TrustList.{IsOnList, name_rules};
 ghost use Rattle.authenticode_core.specs.declared.error.AuthenticodeError.TheVariants as errors;
 
 use crate::authority::authority_name;
-use crate::ctl::CertificateTrustList;
+use crate::bag::certificates::issuer_walk_of;
+use crate::bag::others::Source;
+use crate::ctl::expect_on_list;
 use crate::error::AuthenticodeError;
-use crate::path::others::Source;
 use crate::policy::Policy;
-use crate::signer::certificates::issuer_walk_of;
 use crate::signer::{expect_first, expect_named};
 use cms_types::SignedView;
 use der_core::Structure;
 use names_core::DirectoryName;
 use std::alloc::{AllocError, Global};
-use trust_list::expect_listed;
 use x509_types::CertView;
 
 /// Checks the CA of the first signer against the list of a policy, and returns the index of the
@@ -85,21 +83,6 @@ fn signer_ca<'a>(signed_data: &SignedView<'a>, signer: &CertView<'a>) -> &'a [u8
         Some(name) => name,
         None => unreachable!(),
     }
-}
-
-/// The name of a CA, given as octets, is on a list at a time. It doesn't allocate.
-pub(crate) fn expect_on_list(
-    list: &CertificateTrustList,
-    name: &[u8],
-    now: i64,
-) -> Result<(), AuthenticodeError>
-    ensures { (ca : DerElement) → name.now ≡ encoding ca
-        → MatchResult result (λ _. IsOnList list.now now ca)
-        (IsFirstBroken (name_rules list.now now ca)) }
-{
-    let entries = list.ctl_entries()?;
-    expect_listed(entries, name, now)?;
-    Ok(())
 }
 
 /// The name of a CA, given as octets, is an excluded one; else this error is returned.

@@ -15,12 +15,9 @@ ghost use Rattle.authenticode_core.specs.LinkedPath.{AreLinkedAt, IsUnlinkedAt, 
 ghost use Rattle.authenticode_core.specs.Places.{StandsAt};
 ghost use Rattle.authenticode_core.specs.SigningRules.{IsBagOf};
 
-pub(crate) mod issuer_walk;
-pub(crate) mod others;
-
-use crate::path::others::Others;
-use crate::signer::bag::BagCertificate;
-use crate::signer::certificates::certificate_bag;
+use crate::bag::BagCertificate;
+use crate::bag::certificates::certificate_bag;
+use crate::bag::others::Others;
 use cms_types::SignedView;
 use sig_core::Scheme;
 use std::alloc::{AllocError, Global};

@@ -19,11 +19,11 @@ ghost use Rattle.authenticode_core.specs.declared.error.AuthenticodeError.TheVar
 pub(crate) mod attributes;
 mod code_signing;
 
+use crate::bag::naming::{Named, named_certificate};
 use crate::digest::digest_named;
 use crate::error::AuthenticodeError;
 use crate::signature::attributes::{message_digest_of, signed_message_of};
 use crate::signature::code_signing::expect_code_signing;
-use crate::signer::naming::{Named, named_certificate};
 use asn1_types::IntegerAsn1;
 use cms_types::{SignedView, SignerView};
 use der_core::{Elem, Octets, Structure, is_same};

@@ -20,20 +20,15 @@ ghost use Rattle.authenticode_core.specs.SignedFields.{IsFirstSigner};
 ghost use Rattle.authenticode_core.specs.SignerRules.{IsKeptSigner, IsSignerVouched, IsValidAndVouched, IsValidOrExcusable, LacksSigner, signer_rules};
 ghost use Rattle.authenticode_core.specs.SigningRules.{HasNoCertificate, IsBagOf, IsNamedByKey, RefusesAuthenticodeBy};
 
-pub(crate) mod bag;
-pub(crate) mod certificates;
-pub(crate) mod naming;
-pub(crate) mod wanted;
-
 use crate::accepted::{Accepted, Excuse};
+use crate::bag::BagCertificate;
+use crate::bag::naming::named_at_place;
 use crate::error::AuthenticodeError;
 use crate::excuse::excuse_of;
 use crate::excuse::token::first_signer_of;
 use crate::path::{kept, linked_path};
 use crate::policy::Policy;
 use crate::signature::expect_certificate;
-use crate::signer::bag::BagCertificate;
-use crate::signer::naming::named_at_place;
 use cms_types::{SignedView, SignerView};
 use sig_core::Scheme;
 use std::alloc::Global;

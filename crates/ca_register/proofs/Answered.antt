@@ -14,7 +14,7 @@ use Rattle.program_frame.specs.Limits.{IsWholeFile}
 use Rattle.program_frame.specs.ReadFiles.{AreRead, HandsOut, total_length}
 use Rattle.program_frame.specs.Shelf.{ShelfState}
 use Rattle.program_frame.specs.Sink.{Appends, IsCutShort, SinkState}
-use Rattle.register_text.specs.Lines.{IsRegisterText, Line}
+use Rattle.ca_register.specs.Lines.{IsRegisterText, Line}
 use Rattle.sig_core.specs.DemoScheme.{demo_verdict}
 use Rattle.x509_core.specs.KeptCertificate.{KeptCertificate}
 use Rattle.ca_register.specs.Answer.{IsAnswerTo}

@@ -3,7 +3,7 @@ use Rattle.std.proofs.Common.{◌≡◌, ◌⊎◌, ℕ, List, [], ◌∷◌, �
 use Rattle.std.proofs.lemmas.Bool.{false≢true}
 use Rattle.der_core.specs.Steps.{IsFirstUntaken}
 use Rattle.der_core.proofs.TakenSteps.{HasOneError, HaveOneError}
-use Rattle.register_text.specs.Lines.{Line}
+use Rattle.ca_register.specs.Lines.{Line}
 use Rattle.ca_register.specs.Issuing.{root_step}
 use Rattle.ca_register.specs.LineEntries.{AreIssuable, IsFirstRefused, IsIssuable, entries_of, grant_of, steps_after}
 use Rattle.ca_register.specs.declared.entry.Entry.{Entry}

@@ -8,8 +8,8 @@ use Rattle.der_core.specs.declared.error.DerError.TheVariants as der
 use Rattle.key_types.specs.PublicKeyInfo.{public_key_info, inner_key}
 use Rattle.key_types.specs.declared.key_info.SubjectPublicKeyInfo.{SubjectPublicKeyInfo}
 use Rattle.key_types.specs.declared.subject_key.SubjectKey.{SubjectKey}
-use Rattle.private_key_types.specs.RsaPrivateKey.{rsa_private_key}
-use Rattle.private_key_types.specs.declared.rsa_private_key.RsaPrivateKey.{RsaPrivateKey}
+use Rattle.key_types.specs.RsaPrivateKey.{rsa_private_key}
+use Rattle.key_types.specs.declared.rsa_private_key.RsaPrivateKey.{RsaPrivateKey}
 use Rattle.sig_core.specs.DemoScheme.{demo_signs}
 use Rattle.sig_core.specs.declared.algorithm.SigAlg.{SigAlg}
 use Rattle.sig_core.specs.declared.algorithm.SigAlg.TheVariants.{RsaSha256}

@@ -27,3 +27,7 @@ mod Fillings
 mod Counts
 mod UsableCerts
 mod Answered
+pub mod Cuts
+pub mod Numbers
+pub mod Spelling
+pub mod Texts

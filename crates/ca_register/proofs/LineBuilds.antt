@@ -21,7 +21,7 @@ use Rattle.key_core.specs.declared.signature_algorithm.SignatureAlgorithm.TheVar
 use Rattle.key_core.specs.declared.signature_error.SignatureError.{SignatureError}
 use Rattle.key_core.specs.declared.signature_error.SignatureError.TheVariants as signature_errors
 use Rattle.names_core.specs.declared.name.DirectoryName.{DirectoryName}
-use Rattle.register_text.specs.Lines.{Line}
+use Rattle.ca_register.specs.Lines.{Line}
 use Rattle.x509_types.specs.FirstOfValue.{extensions_in}
 use Rattle.x509_types.specs.declared.extension.Extension.{Extension}
 use Rattle.x509_types.specs.declared.extension.view.ExtensionView.TheVariants as views

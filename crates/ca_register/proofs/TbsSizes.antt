@@ -15,7 +15,7 @@ use Rattle.key_core.specs.SignatureAlgorithm.{IsWrittenAlgorithm}
 use Rattle.key_core.specs.Verifying.{Accepts}
 use Rattle.key_core.specs.declared.signature_algorithm.SignatureAlgorithm.{SignatureAlgorithm}
 use Rattle.name_types.specs.Name.{name}
-use Rattle.register_text.specs.Lines.{Line}
+use Rattle.ca_register.specs.Lines.{Line}
 use Rattle.sig_core.specs.DemoScheme.{demo_verdict}
 use Rattle.x509_types.specs.Certificate.{certificate}
 use Rattle.x509_types.specs.TbsCertificate.{extensions, inner_extensions, inner_tbs, tbs_certificate}

@@ -5,7 +5,7 @@ use Rattle.sig_core.specs.VerdictTable.{newline}
 use Rattle.program_frame.specs.Question.{Line as ReportLine, Question}
 use Rattle.program_frame.specs.Run.{Program}
 use Rattle.program_frame.specs.Statuses as statuses
-use Rattle.register_text.specs.Lines.{HasBadLine, IsRegisterText, Line}
+use Rattle.ca_register.specs.Lines.{HasBadLine, IsRegisterText, Line}
 use Rattle.ca_register.specs.Counting.{IsCount, IsUsableAt}
 use Rattle.ca_register.specs.LineEntries.{AreIssuable, IsFirstRefused, entries_of}
 use Rattle.ca_register.specs.Words.{AsksFor, Job}

@@ -1,7 +1,7 @@
 -- A register after the certificates of lines were issued.
 use Rattle.std.specs.Prelude.{◌≡◌, ℕ, List, Some}
 use Rattle.std.specs.List.{slice_get}
-use Rattle.register_text.specs.Lines.{Line}
+use Rattle.ca_register.specs.Lines.{Line}
 use Rattle.x509_core.specs.KeptCertificate.{KeptCertificate}
 use Rattle.ca_register.specs.LineCertificates.{AreForLines}
 use Rattle.ca_register.specs.LineEntries.{AreIssuable, entries_of}

@@ -6,7 +6,7 @@ use Rattle.der_core.specs.Refusals.{RefusesOctets, Wraps}
 use Rattle.der_core.specs.Steps.{IsFirstUntaken, Step}
 use Rattle.key_core.specs.Signing.{KeyArithmetic}
 use Rattle.key_core.specs.declared.element.Element.TheVariants as elements
-use Rattle.request_types.specs.CertificationRequest.{IsRequest}
+use Rattle.x509_issuing.specs.CertificationRequest.{IsRequest}
 use Rattle.x509_core.specs.History.{AreAncestors}
 use Rattle.x509_core.specs.Issued.{HasCert}
 use Rattle.x509_core.specs.KeptCertificate.{KeptCertificate}

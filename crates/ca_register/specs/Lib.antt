@@ -20,3 +20,5 @@ pub mod Above
 -- Inside, which no public contract cites.
 pub mod Filling
 pub mod Inquiry
+pub mod Lines
+pub mod Held

@@ -9,7 +9,7 @@ use Rattle.der_core.specs.DerElement.{DerElement, Primitive}
 use Rattle.der_core.specs.Elements.{sequence, set}
 use Rattle.key_core.specs.declared.private_key.PrivateKey.{PrivateKey}
 use Rattle.name_types.specs.Name.{name}
-use Rattle.register_text.specs.Lines.{Line}
+use Rattle.ca_register.specs.Lines.{Line}
 use Rattle.x509_types.specs.FirstOfValue.{extensions_in}
 use Rattle.x509_types.specs.declared.extension.view.ExtensionView.TheVariants as views
 use Rattle.x509_core.specs.FirstValue.{HasFirst}

@@ -1,7 +1,7 @@
 -- The entries of lines, and which of the lines are refused, by the lines alone.
 use Rattle.std.specs.Prelude.{◌≡◌, ℕ, List, [], ◌∷◌, ◌++◌, Option, Some, None, map}
 use Rattle.der_core.specs.Steps.{AreTaken, IsFirstUntaken, Step}
-use Rattle.register_text.specs.Lines.{Line}
+use Rattle.ca_register.specs.Lines.{Line}
 use Rattle.ca_register.specs.Issuing.{record_steps, root_step}
 use Rattle.ca_register.specs.declared.entry.Entry.{Entry}
 use Rattle.ca_register.specs.declared.entry.Grant.{Grant}

@@ -7,7 +7,7 @@ use Rattle.program_frame.specs.Limits.{IsWholeFile}
 use Rattle.program_frame.specs.ReadFiles.{HandsOut}
 use Rattle.program_frame.specs.Shelf.{ShelfState}
 use Rattle.program_frame.specs.Sink.{Appends}
-use Rattle.register_text.specs.Lines.{IsRegisterText, Line}
+use Rattle.ca_register.specs.Lines.{IsRegisterText, Line}
 use Rattle.ca_register.specs.Answer.{report_line}
 use Rattle.ca_register.specs.Authorities.{IsRegister}
 use Rattle.ca_register.specs.Counting.{IsAcceptedAt, IsCount}

@@ -9,8 +9,8 @@ ghost use Rattle.program_frame.specs.Question.{Line as ReportLine};
 ghost use Rattle.program_frame.specs.ReadFiles.{HandsOutAtMost};
 ghost use Rattle.program_frame.specs.Statuses as statuses;
 ghost use Rattle.program_frame.specs.declared.stop.Stop.TheVariants as stops;
-ghost use Rattle.register_text.specs.Held.{line_held};
-ghost use Rattle.register_text.specs.Lines.{HasBadLine, IsLine, IsRegisterText, Line};
+ghost use Rattle.ca_register.specs.Held.{line_held};
+ghost use Rattle.ca_register.specs.Lines.{HasBadLine, IsLine, IsRegisterText, Line};
 ghost use Rattle.ca_register.specs.Answer.{IsAnswerLine, IsAnswerTo, question_of};
 ghost use Rattle.ca_register.specs.Inquiry.{Reports, job_held};
 ghost use Rattle.ca_register.specs.LineEntries.{IsFirstRefused};
@@ -24,9 +24,9 @@ use crate::error::IssueError;
 use crate::filling::register_of;
 use crate::job::Job;
 use crate::report::{Answer, report_of};
+use crate::text::{RegisterLine, lines_of};
 use names_core::UtcDate;
 use program_frame::{Report, Shelf, Stop, read_file};
-use register_text::{RegisterLine, lines_of};
 use std::alloc::Global;
 
 /// Reads the file of a job, and reports on its contents.

@@ -15,6 +15,7 @@ mod keys;
 mod program;
 mod register;
 mod report;
+mod text;
 mod usable;
 mod verifying;
 mod words;
@@ -27,3 +28,4 @@ pub use program_frame::{
     SHELF_FAILED, SINK_FAILED, Shelf, Sink, TOO_LONG, USAGE, status_without_words,
 };
 pub use register::Register;
+pub use text::{Limits, RegisterLine, lines_of};

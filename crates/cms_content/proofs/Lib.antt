@@ -1,3 +1,6 @@
 pub mod Contents
 pub mod CtlFields
 pub mod CtlHeld
+pub mod FirstMembers
+pub mod OneListing
+pub mod ListingSteps

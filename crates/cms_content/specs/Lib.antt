@@ -1,5 +1,6 @@
 -- Promises, which public contracts cite: all but those named below.
--- Rules, which the promises rest on: `ContentInfoElements`.
+-- Rules, which the promises rest on: `ContentInfoElements`, and of `Listing` `First`, `FileTime` and
+-- `Attributes`.
 -- Inside, which no public contract cites: `Facts`.
 pub mod CtlKind
 pub mod HeldPurposes
@@ -20,3 +21,8 @@ pub mod LentContent
 pub mod ContentView
 pub mod TimestampRequest
 pub mod Facts
+pub mod First
+pub mod FileTime
+pub mod Attributes
+pub mod Listing
+pub mod ErrorText

@@ -1,7 +1,7 @@
 //! Signed contents (RFC 2315, RFC 5652, Windows Authenticode Portable Executable Signature Format)
 //! as values, read from octets or trees and written as trees: a digest with its algorithm, what
 //! Authenticode signs instead of a file, trust lists, and any content with its type. Timestamp
-//! requests.
+//! requests. Whether a trust list has the name of a CA at a time.
 #![tactic(auto)]
 
 mod content_info;
@@ -16,6 +16,7 @@ mod ctl_values;
 mod digest_info;
 mod held_purposes;
 mod indirect_data;
+mod listing;
 mod spc_attribute;
 mod timestamp_request;
 
@@ -31,5 +32,8 @@ pub use ctl_values::CTLEntryAttributeValues;
 pub use digest_info::DigestInfo;
 pub use held_purposes::HeldPurposes;
 pub use indirect_data::SpcIndirectDataContent;
+pub use listing::error::ListingError;
+pub use listing::expect_listed;
+pub use listing::laws::listing_has_one_answer;
 pub use spc_attribute::SpcAttributeTypeAndOptionalValue;
 pub use timestamp_request::TimestampRequest;

@@ -15,8 +15,8 @@ use Rattle.key_types.specs.PublicKeyInfo.{public_key_info, subject_public_key}
 use Rattle.key_types.specs.RsaPublicKey.{rsa_public_key}
 use Rattle.key_types.specs.declared.key_info.SubjectPublicKeyInfo.{SubjectPublicKeyInfo}
 use Rattle.key_types.specs.declared.subject_key.SubjectKey.{SubjectKey}
-use Rattle.private_key_types.specs.RsaPrivateKey.{rsa_private_key}
-use Rattle.private_key_types.specs.declared.rsa_private_key.RsaPrivateKey.{RsaPrivateKey}
+use Rattle.key_types.specs.RsaPrivateKey.{rsa_private_key}
+use Rattle.key_types.specs.declared.rsa_private_key.RsaPrivateKey.{RsaPrivateKey}
 use Rattle.sig_core.specs.Digest.{digest_of}
 use Rattle.sig_core.specs.DemoScheme.{demo_signature, demo_verdict}
 use Rattle.sig_core.specs.RsaSecret.{RsaNumbers, rsa_private_element, rsa_public_element}

@@ -21,7 +21,7 @@ use Rattle.key_types.specs.declared.key_kind.KeyKind.TheVariants as kinds
 use Rattle.key_types.specs.declared.key_info.SubjectPublicKeyInfo.{SubjectPublicKeyInfo}
 use Rattle.key_types.specs.declared.public_key.RsaPublicKey.{RsaPublicKey}
 use Rattle.key_types.specs.declared.subject_key.SubjectKey.TheVariants as keys
-use Rattle.private_key_types.specs.declared.rsa_private_key.RsaPrivateKey.{RsaPrivateKey}
+use Rattle.key_types.specs.declared.rsa_private_key.RsaPrivateKey.{RsaPrivateKey}
 use Rattle.key_core.specs.Keys.{container_of, point_beside}
 use Rattle.key_core.specs.MadeKeys.{IsRsaInfo}
 use Rattle.key_core.specs.PrivatePkcs1.{IsPrivatePkcs1, IsRsaContainer}

@@ -17,7 +17,7 @@ use Rattle.key_types.specs.SubjectKey.{kind_of_key}
 use Rattle.key_types.specs.declared.key_kind.KeyKind.TheVariants as kinds
 use Rattle.key_types.specs.declared.subject_key.SubjectKey.{SubjectKey}
 use Rattle.key_types.specs.declared.subject_key.SubjectKey.TheVariants as keys
-use Rattle.private_key_types.specs.declared.ec_private_key.ECPrivateKey.{ECPrivateKey}
+use Rattle.key_types.specs.declared.ec_private_key.ECPrivateKey.{ECPrivateKey}
 use Rattle.key_types.specs.declared.algorithm.AlgorithmIdentifier.{AlgorithmIdentifier}
 use Rattle.key_types.specs.declared.key_kind.KeyKind.{KeyKind}
 use Rattle.key_core.specs.CurveParameters.{HasCurve}

@@ -13,7 +13,7 @@ use Rattle.asn1_types.specs.Facts.Elements.{identifiers}
 use Rattle.asn1_types.specs.Values.{identifier_contents}
 use Rattle.asn1_types.specs.declared.bit_string.BitString.{BitString}
 use Rattle.asn1_types.specs.declared.oid.ObjectIdentifier.{ObjectIdentifier}
-use Rattle.private_key_types.specs.declared.ec_private_key.ECPrivateKey.{ECPrivateKey}
+use Rattle.key_types.specs.declared.ec_private_key.ECPrivateKey.{ECPrivateKey}
 use Rattle.sig_core.specs.declared.algorithm.SchemeKind.{SchemeKind}
 use Rattle.key_core.specs.CurveKeys.{IsCurveKey, RefusesCurveKey}
 use Rattle.key_core.specs.DerivedKeys.{Derivation, IsDerived, RefusesDerived, IsPointOf, RefusesPoint, IsEdKeyOf, RefusesEdKey, IsEcRefusal, IsEdRefusal, curve_kind, ed_kind}

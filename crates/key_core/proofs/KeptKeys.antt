@@ -12,7 +12,7 @@ use Rattle.sig_core.specs.declared.algorithm.SchemeKind.{SchemeKind}
 use Rattle.key_types.specs.AlgorithmIdentifier.{algorithm_identifier, algorithm_of}
 use Rattle.key_types.specs.Facts.Algorithms.{algorithms}
 use Rattle.key_types.specs.declared.algorithm.AlgorithmIdentifier.{AlgorithmIdentifier}
-use Rattle.private_key_types.specs.declared.ec_private_key.ECPrivateKey.{ECPrivateKey}
+use Rattle.key_types.specs.declared.ec_private_key.ECPrivateKey.{ECPrivateKey}
 use Rattle.key_core.specs.CurveKeys.{anew, IsEcContainer, IsCurveKey}
 use Rattle.key_core.specs.DerivedKeys.{Derivation, IsCurveOf, IsEdOf, IsDerived, IsPointOf, IsEdKeyOf, whole_bits, curve_kind, ed_kind}
 use Rattle.key_core.specs.EcCurve.{field_size}

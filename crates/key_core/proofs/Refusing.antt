@@ -7,7 +7,7 @@ use Rattle.der_core.specs.Structure.{IsWithin}
 use Rattle.asn1_types.specs.Elements.{object_identifier}
 use Rattle.asn1_types.specs.Values.{identifier_contents}
 use Rattle.asn1_types.specs.declared.oid.ObjectIdentifier.{ObjectIdentifier}
-use Rattle.private_key_types.specs.declared.ec_private_key.ECPrivateKey.{ECPrivateKey}
+use Rattle.key_types.specs.declared.ec_private_key.ECPrivateKey.{ECPrivateKey}
 use Rattle.key_core.specs.CurveKeys.{IsECPrivateKey, IsCurveKey, RefusesCurveKey, IsSec1Key, IsSec1KeyOnKnown, RefusesSec1, RefusesOwnCurve, RefusesKnownCurve}
 use Rattle.key_core.specs.DerivedKeys.{Derivation, IsEcRefusal, RefusesPoint}
 use Rattle.key_core.specs.EcCurve.{curve_identifier}

@@ -6,8 +6,8 @@ use Rattle.asn1_types.specs.declared.bit_string.BitString.{BitString}
 use Rattle.key_types.specs.declared.algorithm.AlgorithmIdentifier.{AlgorithmIdentifier}
 use Rattle.key_types.specs.declared.key_info.SubjectPublicKeyInfo.{SubjectPublicKeyInfo}
 use Rattle.key_types.specs.declared.subject_key.SubjectKey.{SubjectKey}
-use Rattle.private_key_types.specs.RsaPrivateKey.{rsa_private_key}
-use Rattle.private_key_types.specs.declared.rsa_private_key.RsaPrivateKey.{RsaPrivateKey}
+use Rattle.key_types.specs.RsaPrivateKey.{rsa_private_key}
+use Rattle.key_types.specs.declared.rsa_private_key.RsaPrivateKey.{RsaPrivateKey}
 use Rattle.sig_core.specs.DemoScheme.{demo_key}
 use Rattle.sig_core.specs.RsaSecret.{RsaNumbers, IsRsaSecret}
 use Rattle.sig_core.specs.declared.algorithm.SchemeKind.TheVariants.{Rsa}

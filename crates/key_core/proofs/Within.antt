@@ -6,10 +6,10 @@ use Rattle.der_core.specs.Encoding.{encoding, IsDer}
 use Rattle.der_core.specs.Structure.{IsWithin}
 use Rattle.key_types.specs.declared.key_kind.KeyKind.{KeyKind}
 use Rattle.key_types.specs.declared.key_kind.KeyKind.TheVariants as kinds
-use Rattle.private_key_types.specs.RsaPrivateKey.{rsa_private_key}
-use Rattle.private_key_types.specs.ECPrivateKey.{ec_private_key}
-use Rattle.private_key_types.specs.declared.rsa_private_key.RsaPrivateKey.{RsaPrivateKey}
-use Rattle.private_key_types.specs.declared.ec_private_key.ECPrivateKey.{ECPrivateKey}
+use Rattle.key_types.specs.RsaPrivateKey.{rsa_private_key}
+use Rattle.key_types.specs.ECPrivateKey.{ec_private_key}
+use Rattle.key_types.specs.declared.rsa_private_key.RsaPrivateKey.{RsaPrivateKey}
+use Rattle.key_types.specs.declared.ec_private_key.ECPrivateKey.{ECPrivateKey}
 use Rattle.key_core.specs.PrivateKeyValue.{IsPrivateKeyOf}
 use Rattle.key_core.specs.declared.private_key_value.PrivateKeyValue.{PrivateKeyValue}
 use Rattle.key_core.specs.declared.private_key_value.PrivateKeyValue.TheVariants as values

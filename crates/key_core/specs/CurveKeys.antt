@@ -10,8 +10,8 @@ use Rattle.asn1_types.specs.Values.{identifier_contents, bit_string_contents}
 use Rattle.asn1_types.specs.declared.bit_string.BitString.{BitString}
 use Rattle.asn1_types.specs.declared.oid.ObjectIdentifier.{ObjectIdentifier}
 use Rattle.asn1_types.specs.declared.oids.TheConstants.{EC_PUBLIC_KEY}
-use Rattle.private_key_types.specs.ECPrivateKey.{ec_private_key}
-use Rattle.private_key_types.specs.declared.ec_private_key.ECPrivateKey.{ECPrivateKey}
+use Rattle.key_types.specs.ECPrivateKey.{ec_private_key}
+use Rattle.key_types.specs.declared.ec_private_key.ECPrivateKey.{ECPrivateKey}
 use Rattle.key_types.specs.AlgorithmIdentifier.{oid_of, parameters_of}
 use Rattle.key_core.specs.DerivedKeys.{Derivation, IsCurveOf, IsPointOf, RefusesPoint, whole_bits}
 use Rattle.key_core.specs.EcCurve.{curve_identifier}

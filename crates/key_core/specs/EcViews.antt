@@ -10,7 +10,7 @@ use Rattle.key_types.specs.SubjectKey.{kind_of_key}
 use Rattle.key_types.specs.declared.key_info.SubjectPublicKeyInfo.{SubjectPublicKeyInfo}
 use Rattle.key_types.specs.declared.key_kind.KeyKind.TheVariants as kinds
 use Rattle.key_types.specs.declared.subject_key.SubjectKey.TheVariants as keys
-use Rattle.private_key_types.specs.declared.ec_private_key.ECPrivateKey.{ECPrivateKey}
+use Rattle.key_types.specs.declared.ec_private_key.ECPrivateKey.{ECPrivateKey}
 use Rattle.key_core.specs.PrivateKeyValue.{private_kind}
 use Rattle.key_core.specs.declared.ec_views.EcdsaKeypair.{EcdsaKeypair}
 use Rattle.key_core.specs.declared.ec_views.EcdsaPublicKey.{EcdsaPublicKey}

@@ -7,7 +7,7 @@ use Rattle.der_core.specs.Structure.{IsWithin}
 use Rattle.asn1_types.specs.Elements.{object_identifier}
 use Rattle.asn1_types.specs.Values.{identifier_contents}
 use Rattle.asn1_types.specs.declared.oid.ObjectIdentifier.{ObjectIdentifier}
-use Rattle.private_key_types.specs.declared.ec_private_key.ECPrivateKey.{ECPrivateKey}
+use Rattle.key_types.specs.declared.ec_private_key.ECPrivateKey.{ECPrivateKey}
 use Rattle.key_types.specs.AlgorithmIdentifier.{oid_of, parameters_of}
 use Rattle.key_core.specs.CurveKeys.{IsCurveKey, RefusesCurveKey}
 use Rattle.key_core.specs.DerivedKeys.{Derivation, IsEdOf, IsEdKeyOf, RefusesEdKey, IsEcRefusal, IsEdRefusal}

@@ -8,8 +8,8 @@ use Rattle.der_core.specs.Refusals.{RefusesInner}
 use Rattle.der_core.specs.Structure.{IsWithin}
 use Rattle.asn1_types.specs.Values.{identifier_contents}
 use Rattle.asn1_types.specs.declared.oids.TheConstants.{RSA_ENCRYPTION}
-use Rattle.private_key_types.specs.RsaPrivateKey.{rsa_private_key}
-use Rattle.private_key_types.specs.declared.rsa_private_key.RsaPrivateKey.{RsaPrivateKey}
+use Rattle.key_types.specs.RsaPrivateKey.{rsa_private_key}
+use Rattle.key_types.specs.declared.rsa_private_key.RsaPrivateKey.{RsaPrivateKey}
 use Rattle.key_types.specs.AlgorithmIdentifier.{oid_of, parameters_of}
 use Rattle.key_core.specs.KeyRefusals.{IsUnwrittenKey}
 use Rattle.key_core.specs.declared.element.Element.TheVariants as elements

@@ -7,7 +7,7 @@ use Rattle.key_types.specs.declared.algorithm.AlgorithmIdentifier.{AlgorithmIden
 use Rattle.key_types.specs.declared.key_info.SubjectPublicKeyInfo.{SubjectPublicKeyInfo}
 use Rattle.key_types.specs.declared.public_key.RsaPublicKey.{RsaPublicKey}
 use Rattle.key_types.specs.declared.subject_key.SubjectKey.TheVariants as keys
-use Rattle.private_key_types.specs.declared.rsa_private_key.RsaPrivateKey.{RsaPrivateKey}
+use Rattle.key_types.specs.declared.rsa_private_key.RsaPrivateKey.{RsaPrivateKey}
 use Rattle.key_core.specs.DerivedKeys.{IsEcRefusal, IsEdRefusal}
 use Rattle.key_core.specs.MadeKeys.{IsRsaInfo}
 use Rattle.key_core.specs.declared.error.KeyContext.TheVariants as contexts

@@ -8,9 +8,9 @@ use Rattle.key_types.specs.AlgorithmIdentifier.{oid_of}
 use Rattle.key_types.specs.declared.key_info.SubjectPublicKeyInfo.{SubjectPublicKeyInfo}
 use Rattle.key_types.specs.declared.key_kind.KeyKind.TheVariants as kinds
 use Rattle.key_types.specs.declared.subject_key.SubjectKey.TheVariants as keys
-use Rattle.private_key_types.specs.RsaPrivateKey.{rsa_private_key}
-use Rattle.private_key_types.specs.declared.rsa_private_key.RsaPrivateKey.{RsaPrivateKey}
-use Rattle.private_key_types.specs.declared.ec_private_key.ECPrivateKey.{ECPrivateKey}
+use Rattle.key_types.specs.RsaPrivateKey.{rsa_private_key}
+use Rattle.key_types.specs.declared.rsa_private_key.RsaPrivateKey.{RsaPrivateKey}
+use Rattle.key_types.specs.declared.ec_private_key.ECPrivateKey.{ECPrivateKey}
 use Rattle.sig_core.specs.declared.algorithm.SchemeKind.{SchemeKind}
 use Rattle.sig_core.specs.declared.algorithm.SchemeKind.TheVariants as schemes
 use Rattle.sig_core.specs.declared.algorithm.SigAlg.{SigAlg}

@@ -32,7 +32,10 @@ pub use ed_views::{EdKeypair, EdPublicKey};
 pub use element::Element;
 pub use error::{KeyContext, KeyError};
 pub use key_id::{KeyIdGenError, KeyIdGenMethod};
-pub use key_types::{AlgorithmIdentifier, KeyKind, RsaPublicKey, SubjectKey, SubjectPublicKeyInfo};
+pub use key_types::{
+    AlgorithmIdentifier, ECPrivateKey, KeyKind, RsaPrivateKey, RsaPublicKey, SubjectKey,
+    SubjectPublicKeyInfo,
+};
 pub use laws::{
     keys_of_rsa_are_secrets, lists_have_each_curve, one_identifier_each, pkcs1_comes_back,
     pkcs8_comes_back, public_keys_come_back,
@@ -41,7 +44,6 @@ pub use named_ec_curve::NamedEcCurve;
 pub use named_ed_algorithm::NamedEdAlgorithm;
 pub use private_key::PrivateKey;
 pub use private_key_info::PrivateKeyInfo;
-pub use private_key_types::{ECPrivateKey, RsaPrivateKey};
 pub use private_key_value::PrivateKeyValue;
 pub use private_key_version::PrivateKeyVersion;
 pub use public_key::PublicKey;

@@ -7,8 +7,7 @@ ghost use Rattle.key_core.specs.PrivateKeyValue.{private_kind, private_key, IsPr
 ghost use Rattle.key_core.specs.declared.private_key_value.PrivateKeyValue.{PrivateKeyValue};
 
 use der_core::{DerError, Octets, Structure, has_within, read_within, write_within};
-use key_types::KeyKind;
-use private_key_types::{ECPrivateKey, RsaPrivateKey};
+use key_types::{ECPrivateKey, KeyKind, RsaPrivateKey};
 use std::alloc::{AllocError, Global};
 
 /// A private key, as its algorithm encodes it. It has no `Debug`, so no secret is printed by

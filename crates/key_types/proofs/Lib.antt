@@ -1,2 +1,4 @@
 pub mod Parameters
 pub mod Keys
+pub mod ECFields
+mod RsaFields

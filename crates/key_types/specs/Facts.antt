@@ -3,3 +3,5 @@
 pub mod Algorithms
 pub mod Kinds
 pub mod Keys
+pub mod RsaPrivateKeys
+pub mod ECPrivateKeys

@@ -6,3 +6,5 @@ pub mod KeyKind
 pub mod SubjectKey
 pub mod PublicKeyInfo
 pub mod Facts
+pub mod RsaPrivateKey
+pub mod ECPrivateKey

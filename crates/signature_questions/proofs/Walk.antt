@@ -13,7 +13,7 @@ use Rattle.authenticode_core.specs.OthersCursor.{AreLeft, IsFirstOf, unread_memb
 use Rattle.authenticode_core.specs.Places.{StandsAt}
 use Rattle.authenticode_core.specs.SignedFields.{IsFirstSigner, signers_of}
 use Rattle.authenticode_core.specs.SigningRules.{IsBagOf, IsSignerCertificate}
-use Rattle.authenticode_core.specs.declared.path.others.Others.{Others}
+use Rattle.authenticode_core.specs.declared.bag.others.Others.{Others}
 use Rattle.authenticode_core.proofs.Tokens.{token_once}
 use Rattle.signature_questions.specs.Ahead.{AreAhead, AreAheadOf, AreLinksAhead, left_links, one_left}
 use Rattle.signature_questions.specs.Asked.{HasPath, HasStamp, IsOfLink, IsOfSigner}

@@ -12,10 +12,10 @@ use Rattle.key_core.specs.declared.private_key.PrivateKey.{PrivateKey}
 use Rattle.key_core.specs.declared.signature_algorithm.SignatureAlgorithm.{SignatureAlgorithm}
 use Rattle.names_core.specs.declared.name.DirectoryName.{DirectoryName}
 use Rattle.x509_types.specs.declared.attribute.Attribute.{Attribute}
-use Rattle.request_types.specs.RequestInfo.{request_info}
-use Rattle.request_types.specs.CertificationRequest.{request}
-use Rattle.request_types.specs.declared.request.CertificationRequest.{CertificationRequest}
-use Rattle.request_types.specs.declared.request_info.CertificationRequestInfo.{CertificationRequestInfo}
+use Rattle.x509_issuing.specs.RequestInfo.{request_info}
+use Rattle.x509_issuing.specs.CertificationRequest.{request}
+use Rattle.x509_issuing.specs.declared.request.CertificationRequest.{CertificationRequest}
+use Rattle.x509_issuing.specs.declared.request_info.CertificationRequestInfo.{CertificationRequestInfo}
 use Rattle.x509_core.specs.declared.csr_error.CsrError.{CsrError}
 use Rattle.x509_issuing.specs.CsrRefusals.{IsUnwrittenCsr, IsUnsigned}
 use Rattle.x509_issuing.specs.Generated.{InfoUnsigned, InfoUnwritten, IsGenerated, IsInfoFor, IsInfoSigned, IsInfoWritten, IsRequestFor, IsSignedWhole, RefusesToGenerate, RefusesToMake}

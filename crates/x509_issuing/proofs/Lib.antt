@@ -8,3 +8,4 @@ pub mod BuiltCertificates
 pub mod IssuersGiven
 pub mod FirstExtensions
 pub mod BuiltSteps
+pub mod Requested

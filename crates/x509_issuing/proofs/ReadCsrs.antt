@@ -10,8 +10,8 @@ use Rattle.der_core.specs.Refusals.{RefusesShape, RefusesOctets}
 use Rattle.der_core.specs.Structure.{IsWithin}
 use Rattle.der_core.specs.declared.error.DerError.{DerError}
 use Rattle.der_core.specs.declared.error.DerError.TheVariants as errors
-use Rattle.request_types.specs.CertificationRequest.{IsRequest}
-use Rattle.request_types.specs.declared.request.CertificationRequest.{CertificationRequest}
+use Rattle.x509_issuing.specs.CertificationRequest.{IsRequest}
+use Rattle.x509_issuing.specs.declared.request.CertificationRequest.{CertificationRequest}
 use Rattle.x509_issuing.specs.KeptRequest.{KeptRequest, kept_request, HasInfo}
 use Rattle.x509_issuing.specs.Facts.Csrs.{kept_once}
 

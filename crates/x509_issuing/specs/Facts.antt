@@ -1,2 +1,4 @@
 -- Lemmas about values. No public clause cites this folder.
+pub mod DeterminedAttributes
+pub mod Requests
 pub mod Csrs

@@ -17,10 +17,10 @@ use Rattle.key_core.specs.declared.signature_algorithm.SignatureAlgorithm.{Signa
 use Rattle.names_core.specs.Names.{sets_of}
 use Rattle.names_core.specs.declared.name.DirectoryName.{DirectoryName}
 use Rattle.x509_types.specs.declared.attribute.Attribute.{Attribute}
-use Rattle.request_types.specs.RequestInfo.{request_info, inner_request}
-use Rattle.request_types.specs.CertificationRequest.{request}
-use Rattle.request_types.specs.declared.request.CertificationRequest.{CertificationRequest}
-use Rattle.request_types.specs.declared.request_info.CertificationRequestInfo.{CertificationRequestInfo}
+use Rattle.x509_issuing.specs.RequestInfo.{request_info, inner_request}
+use Rattle.x509_issuing.specs.CertificationRequest.{request}
+use Rattle.x509_issuing.specs.declared.request.CertificationRequest.{CertificationRequest}
+use Rattle.x509_issuing.specs.declared.request_info.CertificationRequestInfo.{CertificationRequestInfo}
 use Rattle.x509_core.specs.declared.csr_error.CsrError.{CsrError}
 use Rattle.x509_issuing.specs.CsrRefusals.{IsUnwrittenCsr, IsUnsigned, IsKeyless}
 use Rattle.x509_issuing.specs.KeptRequest.{KeptRequest, kept_request, info_elements, request_elements}

@@ -8,10 +8,10 @@ use Rattle.key_core.specs.Keys.{info_of}
 use Rattle.key_core.specs.declared.public_key.PublicKey.{PublicKey}
 use Rattle.name_types.specs.declared.attribute.AttributeTypeAndValue.{AttributeTypeAndValue}
 use Rattle.x509_types.specs.declared.attribute.Attribute.{Attribute}
-use Rattle.request_types.specs.RequestInfo.{IsRequestInfo, request_info, inner_request}
-use Rattle.request_types.specs.CertificationRequest.{request_of, request, inner_of_request}
-use Rattle.request_types.specs.declared.request.CertificationRequest.{CertificationRequest}
-use Rattle.request_types.specs.declared.request_info.CertificationRequestInfo.{CertificationRequestInfo}
+use Rattle.x509_issuing.specs.RequestInfo.{IsRequestInfo, request_info, inner_request}
+use Rattle.x509_issuing.specs.CertificationRequest.{request_of, request, inner_of_request}
+use Rattle.x509_issuing.specs.declared.request.CertificationRequest.{CertificationRequest}
+use Rattle.x509_issuing.specs.declared.request_info.CertificationRequestInfo.{CertificationRequestInfo}
 
 -- The element of the CertificationRequestInfo, and the value: the element encodes that of the
 -- value, and the element around it is within limits.

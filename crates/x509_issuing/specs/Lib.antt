@@ -1,6 +1,9 @@
 -- Promises, which public contracts cite: all but those named below.
--- Rules, which the promises rest on: `Inherited`, `BuildRefusals`.
+-- Rules, which the promises rest on: `RequestElements`, `Inherited`, `BuildRefusals`.
 -- Inside, which no public contract cites: `Facts`.
+pub mod RequestElements
+pub mod RequestInfo
+pub mod CertificationRequest
 pub mod KeptRequest
 pub mod CsrRefusals
 pub mod SelfSigned

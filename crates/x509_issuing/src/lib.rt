@@ -1,9 +1,13 @@
-//! A CA's work. Certification requests: reading them, stored with their octets, verifying and
-//! generating them. Certificates: building them for a request, or for a name and a key.
+//! A CA's work. Certification requests (RFC 2986): as values, and stored with their octets, verified
+//! and generated. Certificates: building them for a request, or for a name and a key.
 #![tactic(auto)]
 
 mod builder;
 mod csr;
+mod request;
+mod request_info;
 
 pub use builder::CertificateBuilder;
 pub use csr::Csr;
+pub use request::CertificationRequest;
+pub use request_info::CertificationRequestInfo;

@@ -1,9 +1,9 @@
 //! Names on trust lists.
 
+use cms_content::{ListingError, expect_listed};
 use cms_types::Ctl;
 use der_core::{DerError, Structure};
 use std::alloc::Global;
-use trust_list::{ListingError, expect_listed};
 use xgolden::{Line, number_of};
 
 /// Prints whether a name is listed at a time, the last word.

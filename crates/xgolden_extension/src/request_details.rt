@@ -2,8 +2,8 @@
 
 use crate::details::{Details, print_bits};
 use der_core::Structure;
-use request_types::CertificationRequest;
 use std::alloc::Global;
+use x509_issuing::CertificationRequest;
 use x509_types::AttributeList;
 use xgolden::Line;
 

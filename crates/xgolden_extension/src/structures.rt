@@ -2,8 +2,8 @@
 
 use crate::details::Details;
 use der_core::Structure;
-use request_types::CertificationRequest;
 use std::alloc::Global;
+use x509_issuing::CertificationRequest;
 use x509_types::{Attribute, Extension, RawGeneralNames, Validity};
 use xgolden::{Line, are_equal, comes_back, value_of};
 

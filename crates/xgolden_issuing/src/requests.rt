@@ -6,11 +6,10 @@ use anyhow::{Result, bail};
 use der_core::{DerError, Structure};
 use key_core::PrivateKey;
 use names_core::DirectoryName;
-use request_types::CertificationRequest;
 use sig_core::Scheme;
 use std::alloc::{AllocError, Global};
 use x509_core::CsrError;
-use x509_issuing::Csr;
+use x509_issuing::{CertificationRequest, Csr};
 use xgolden::{Line, equals, gives, gives_octets, octets_of};
 
 /// Prints whether the octets round-trip, the key, the subject and the verdict on the signature; or

@@ -2,8 +2,8 @@
 
 use asn1_types::{BitString, Ia5String, IntegerAsn1, ObjectIdentifier};
 use key_core::{PrivateKeyInfo, PrivateKeyValue};
+use key_types::{ECPrivateKey, RsaPrivateKey};
 use names_core::DirectoryName;
-use private_key_types::{ECPrivateKey, RsaPrivateKey};
 use std::alloc::Global;
 use x509_types::{
     AlgorithmIdentifier, AttributeTypeAndValue, AttributeValue, DirectoryString,

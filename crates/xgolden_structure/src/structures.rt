@@ -4,8 +4,8 @@ use crate::details::Details;
 use asn1_types::{BitString, Ia5String, IntegerAsn1, ObjectIdentifier};
 use der_core::Structure;
 use key_core::PrivateKeyInfo;
+use key_types::{ECPrivateKey, RsaPrivateKey};
 use names_core::DirectoryName;
-use private_key_types::{ECPrivateKey, RsaPrivateKey};
 use std::alloc::Global;
 use x509_types::{
     AlgorithmIdentifier, AttributeTypeAndValue, AttributeValue, DirectoryString,

@@ -43,21 +43,13 @@ mod of_pe_image;
 #[cfg(test)]
 mod of_picky_check;
 #[cfg(test)]
-mod of_private_key_types;
-#[cfg(test)]
 mod of_program_frame;
-#[cfg(test)]
-mod of_register_text;
-#[cfg(test)]
-mod of_request_types;
 #[cfg(test)]
 mod of_sig_core;
 #[cfg(test)]
 mod of_signature_questions;
 #[cfg(test)]
 mod of_trust_anchors;
-#[cfg(test)]
-mod of_trust_list;
 #[cfg(test)]
 mod of_wincert_core;
 #[cfg(test)]
@@ -66,3 +58,11 @@ mod of_x509_core;
 mod of_x509_issuing;
 #[cfg(test)]
 mod of_x509_types;
+#[cfg(test)]
+mod private_keys;
+#[cfg(test)]
+mod registers;
+#[cfg(test)]
+mod requests;
+#[cfg(test)]
+mod trust_lists;

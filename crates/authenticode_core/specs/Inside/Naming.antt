@@ -6,9 +6,9 @@ use Rattle.x509_types.specs.Purposes.{HasPurposes}
 use Rattle.authenticode_core.specs.Inside.Wanted.{IsNamedBy, IsWanted}
 use Rattle.authenticode_core.specs.Places.{IsLeastPlace}
 use Rattle.authenticode_core.specs.SigningRules.{AsksForPurposes}
-use Rattle.authenticode_core.specs.declared.signer.bag.BagCertificate.{BagCertificate}
-use Rattle.authenticode_core.specs.declared.signer.naming.Named.{Named}
-use Rattle.authenticode_core.specs.declared.signer.wanted.Wanted.{Wanted}
+use Rattle.authenticode_core.specs.declared.bag.BagCertificate.{BagCertificate}
+use Rattle.authenticode_core.specs.declared.bag.naming.Named.{Named}
+use Rattle.authenticode_core.specs.declared.bag.wanted.Wanted.{Wanted}
 
 -- the certificate is the first one of the bag with this issuer and serial number
 abbrev pub IsFirstOfName : List CertificateElements → List ℕ → List ℕ → CertificateElements → Type 0

@@ -23,7 +23,7 @@ use Rattle.authenticode_core.specs.SignedFields.{HasMessageDigest, IndirectData}
 use Rattle.authenticode_core.specs.SigningRules.{AsksForPurposes, DigestDiffers, HasNoMessageDigest, IsBagOf, IsSignerCertificate, IsUnsupportedDigest, digested_octets}
 use Rattle.authenticode_core.specs.declared.error.AuthenticodeError.{AuthenticodeError}
 use Rattle.authenticode_core.specs.declared.error.AuthenticodeError.TheVariants as errors
-use Rattle.authenticode_core.specs.declared.signer.naming.Named.{Named}
+use Rattle.authenticode_core.specs.declared.bag.naming.Named.{Named}
 
 -- the certificate of the first signer is at this index of the bag
 abbrev pub HasSigner : SignedDataElements → ℕ → CertificateElements → Type 0

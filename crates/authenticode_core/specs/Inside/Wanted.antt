@@ -3,8 +3,8 @@ use Rattle.std.specs.Prelude.{◌≡◌, ℕ, List}
 use Rattle.der_core.specs.Encoding.{encoding}
 use Rattle.x509_types.specs.CertificateElements.{CertificateElements}
 use Rattle.x509_types.specs.Purposes.{NamesPurpose}
-use Rattle.authenticode_core.specs.declared.signer.wanted.Wanted.{Wanted}
-use Rattle.authenticode_core.specs.declared.signer.wanted.Wanted.TheVariants.{Subject, IssuerAndSerial, Purpose}
+use Rattle.authenticode_core.specs.declared.bag.wanted.Wanted.{Wanted}
+use Rattle.authenticode_core.specs.declared.bag.wanted.Wanted.TheVariants.{Subject, IssuerAndSerial, Purpose}
 
 -- the certificate has this issuer, given as octets, and this serial number, given as contents
 -- octets

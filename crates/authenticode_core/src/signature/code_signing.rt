@@ -6,8 +6,8 @@ ghost use Rattle.x509_types.specs.CertificateView.{view_elements};
 ghost use Rattle.authenticode_core.specs.Inside.SigningSteps.{MayNotSignCode};
 ghost use Rattle.authenticode_core.specs.SigningRules.{AsksForPurposes, IsForCodeSigning};
 
+use crate::bag::naming::Named;
 use crate::error::AuthenticodeError;
-use crate::signer::naming::Named;
 use asn1_types::oids::KP_CODE_SIGNING;
 
 /// Checks that the signer's certificate has the extended key usage code signing, if a certificate

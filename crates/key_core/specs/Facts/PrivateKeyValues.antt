@@ -5,10 +5,10 @@ use Rattle.der_core.specs.Encoding.{encoding, IsWellFormed}
 use Rattle.der_core.specs.Facts.Fronts.{formed_encoding_once}
 use Rattle.der_core.specs.Facts.OctetStrings.{octet_strings}
 use Rattle.key_types.specs.PublicKeyInfo.{key_kind_number}
-use Rattle.private_key_types.specs.RsaPrivateKey.{rsa_private_key}
-use Rattle.private_key_types.specs.ECPrivateKey.{ec_private_key}
-use Rattle.private_key_types.specs.Facts.RsaPrivateKeys.{rsa_private_keys}
-use Rattle.private_key_types.specs.Facts.ECPrivateKeys.{ec_private_keys}
+use Rattle.key_types.specs.RsaPrivateKey.{rsa_private_key}
+use Rattle.key_types.specs.ECPrivateKey.{ec_private_key}
+use Rattle.key_types.specs.Facts.RsaPrivateKeys.{rsa_private_keys}
+use Rattle.key_types.specs.Facts.ECPrivateKeys.{ec_private_keys}
 use Rattle.key_core.specs.PrivateKeyValue.{private_kind, private_key, private_key_octets}
 use Rattle.key_core.specs.declared.private_key_value.PrivateKeyValue.{PrivateKeyValue}
 use Rattle.key_core.specs.declared.private_key_value.PrivateKeyValue.TheVariants as values

@@ -21,8 +21,7 @@ use crate::private_key_version::PrivateKeyVersion;
 use crate::public_key::coordinates::{are_coordinates, uncompressed};
 use asn1_types::{BitString, ObjectIdentifier};
 use der_core::{Octets, copy_option};
-use key_types::AlgorithmIdentifier;
-use private_key_types::ECPrivateKey;
+use key_types::{AlgorithmIdentifier, ECPrivateKey};
 use std::alloc::{AllocError, Global};
 
 impl PrivateKey {

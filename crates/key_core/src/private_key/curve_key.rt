@@ -17,8 +17,7 @@ use crate::public_key::named_curve;
 use asn1_types::ObjectIdentifier;
 use asn1_types::oids::EC_PUBLIC_KEY;
 use der_core::Structure;
-use key_types::AlgorithmIdentifier;
-use private_key_types::ECPrivateKey;
+use key_types::{AlgorithmIdentifier, ECPrivateKey};
 use sig_core::Scheme;
 use std::alloc::{AllocError, Global};
 

@@ -8,7 +8,7 @@ use crate::ec_curve::EcCurve;
 use crate::ed_algorithm::EdAlgorithm;
 use crate::error::{KeyContext, KeyError};
 use asn1_types::BitString;
-use private_key_types::ECPrivateKey;
+use key_types::ECPrivateKey;
 use sig_core::{Scheme, SchemeError};
 use std::alloc::Global;
 

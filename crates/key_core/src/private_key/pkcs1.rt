@@ -4,8 +4,8 @@ ghost use Rattle.std.specs.Prelude.{◌≡◌, ◌≢◌, ◌∷◌, [], Err, If
 ghost use Rattle.der_core.specs.Encoding.{encoding, IsDer};
 ghost use Rattle.der_core.specs.Refusals.{RefusesOctets, RefusesInner};
 ghost use Rattle.key_types.specs.declared.key_kind.KeyKind.TheVariants as kinds;
-ghost use Rattle.private_key_types.specs.RsaPrivateKey.{rsa_private_key};
-ghost use Rattle.private_key_types.specs.declared.rsa_private_key.RsaPrivateKey.{RsaPrivateKey};
+ghost use Rattle.key_types.specs.RsaPrivateKey.{rsa_private_key};
+ghost use Rattle.key_types.specs.declared.rsa_private_key.RsaPrivateKey.{RsaPrivateKey};
 ghost use Rattle.key_core.specs.KeyRefusals.{RefusesFaults, RefusesOthers, IsUnreadKey, IsUnwrittenKey};
 ghost use Rattle.key_core.specs.PrivateKeyValue.{private_kind};
 ghost use Rattle.key_core.specs.PrivatePkcs1.{IsRsaContainer, IsRsaPrivateKey, IsPrivatePkcs1, IsPkcs1OfPrivate, RefusesPrivatePkcs1};
@@ -22,8 +22,7 @@ use crate::private_key_version::PrivateKeyVersion;
 use asn1_types::ObjectIdentifier;
 use asn1_types::oids::RSA_ENCRYPTION;
 use der_core::Structure;
-use key_types::AlgorithmIdentifier;
-use private_key_types::RsaPrivateKey;
+use key_types::{AlgorithmIdentifier, RsaPrivateKey};
 use std::alloc::{AllocError, Global};
 
 impl PrivateKey {

@@ -27,8 +27,7 @@ use crate::private_key_value::PrivateKeyValue;
 use asn1_types::{BitString, ObjectIdentifier};
 use der_core::tag::OBJECT_IDENTIFIER;
 use der_core::{Elem, Structure, leaf_at};
-use key_types::AlgorithmIdentifier;
-use private_key_types::ECPrivateKey;
+use key_types::{AlgorithmIdentifier, ECPrivateKey};
 use sig_core::Scheme;
 use std::alloc::Global;
 

@@ -10,8 +10,9 @@ use crate::error::{KeyContext, KeyError};
 use crate::private_key_value::PrivateKeyValue;
 use crate::public_key::{PublicKey, rsa_info};
 use der_core::Structure;
-use key_types::{AlgorithmIdentifier, RsaPublicKey, SubjectKey, SubjectPublicKeyInfo};
-use private_key_types::RsaPrivateKey;
+use key_types::{
+    AlgorithmIdentifier, RsaPrivateKey, RsaPublicKey, SubjectKey, SubjectPublicKeyInfo,
+};
 use std::alloc::{AllocError, Global};
 
 impl PrivateKey {

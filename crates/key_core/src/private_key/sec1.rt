@@ -7,7 +7,7 @@ ghost use Rattle.key_core.specs.EcCurve.{curve_identifier};
 ghost use Rattle.der_core.specs.Encoding.{encoding};
 ghost use Rattle.der_core.specs.Refusals.{RefusesOctets};
 ghost use Rattle.der_core.specs.Structure.{IsWithin};
-ghost use Rattle.private_key_types.specs.declared.ec_private_key.ECPrivateKey.{ECPrivateKey};
+ghost use Rattle.key_types.specs.declared.ec_private_key.ECPrivateKey.{ECPrivateKey};
 ghost use Rattle.key_core.specs.CurveKeys.{IsECPrivateKey, IsCurveKey, RefusesCurveKey, IsSec1Key, IsSec1KeyOn, IsSec1KeyOnKnown, RefusesSec1, RefusesOwnCurve, RefusesKnownCurve};
 ghost use Rattle.key_core.specs.DerivedKeys.{IsEcRefusal};
 ghost use Rattle.key_core.specs.KeyRefusals.{RefusesFaults, RefusesOthers, IsUnreadKey};
@@ -20,7 +20,7 @@ use crate::element::Element;
 use crate::error::{KeyContext, KeyError};
 use asn1_types::ObjectIdentifier;
 use der_core::Structure;
-use private_key_types::ECPrivateKey;
+use key_types::ECPrivateKey;
 use sig_core::Scheme;
 use std::alloc::Global;
 

@@ -12,10 +12,10 @@ use Rattle.der_core.specs.Facts.InBounds.{IsDerWithin-prop}
 use Rattle.asn1_types.specs.Elements.{bit_string}
 use Rattle.key_types.specs.AlgorithmIdentifier.{algorithm_identifier}
 use Rattle.x509_types.specs.Facts.Certificates.{same_three}
-use Rattle.request_types.specs.RequestInfo.{IsRequestInfo}
-use Rattle.request_types.specs.CertificationRequest.{IsRequest, request_of, request_octets}
-use Rattle.request_types.specs.Facts.Requests.{requests, requests_by_octets}
-use Rattle.request_types.specs.declared.request.CertificationRequest.{CertificationRequest}
+use Rattle.x509_issuing.specs.RequestInfo.{IsRequestInfo}
+use Rattle.x509_issuing.specs.CertificationRequest.{IsRequest, request_of, request_octets}
+use Rattle.x509_issuing.specs.Facts.Requests.{requests, requests_by_octets}
+use Rattle.x509_issuing.specs.declared.request.CertificationRequest.{CertificationRequest}
 use Rattle.x509_issuing.specs.KeptRequest.{KeptRequest, kept_request, IsAroundInfo, HasInfo}
 
 same_element : (a b : DerElement) → IsProp (a ≡ b)

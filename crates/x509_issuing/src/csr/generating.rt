@@ -10,17 +10,18 @@ ghost use Rattle.key_core.specs.SignatureAlgorithm.{IsWrittenAlgorithm, IsUnwrit
 ghost use Rattle.key_core.specs.Signing.{IsKeyPair, arithmetic};
 ghost use Rattle.key_core.specs.Verifying.{Accepts};
 ghost use Rattle.key_core.specs.declared.error.KeyError.{KeyError};
-ghost use Rattle.request_types.specs.RequestInfo.{request_info};
+ghost use Rattle.x509_issuing.specs.RequestInfo.{request_info};
 ghost use Rattle.x509_issuing.specs.CsrRefusals.{IsUnsigned, keyless};
 ghost use Rattle.x509_issuing.specs.Generated.{HasNoHalf, InfoUnsigned, InfoUnwritten, IsGenerated, IsInfoFor, IsInfoSigned, IsInfoWritten, IsRequestFor, RefusesToGenerate, RefusesToMake};
 ghost use Rattle.x509_issuing.specs.SelfSigned.{IsSelfSigned};
 
 use super::{Csr, causes};
+use crate::request::CertificationRequest;
+use crate::request_info::CertificationRequestInfo;
 use asn1_types::BitString;
 use der_core::Structure;
 use key_core::{Element, PrivateKey, SignatureAlgorithm};
 use names_core::DirectoryName;
-use request_types::{CertificationRequest, CertificationRequestInfo};
 use sig_core::Scheme;
 use std::alloc::Global;
 use x509_core::CsrError;

@@ -1,7 +1,7 @@
 use Rattle.std.proofs.Common.{◌<◌, refl, length, arith}
 use Rattle.std.proofs.lemmas.Bool.{iff_false}
 use Rattle.std.proofs.lemmas.Option.{slice_get_read}
-use Rattle.trust_list.proofs.FirstMembers.{none_yet, not_at_all, yes_at}
+use Rattle.cms_content.proofs.FirstMembers.{none_yet, not_at_all, yes_at}
 use Rattle.authenticode_core.proofs.listing.is_among.Goals as goal
 
 pub returns-then-is_named : goal.returns-then-is_named

@@ -1,6 +1,6 @@
 use Rattle.name_types.specs.Name.{name}
 use Rattle.names_core.specs.Names.{sets_of}
-use Rattle.trust_list.specs.First.{HoldsOfNoneBefore}
+use Rattle.cms_content.specs.First.{HoldsOfNoneBefore}
 use Rattle.authenticode_core.specs.ListRules.{IsNamed}
 use Rattle.authenticode_core.proofs.listing.is_among.Given as goal
 

@@ -1,7 +1,7 @@
 use Rattle.std.proofs.Common.{◌+◌, map, arith}
 use Rattle.key_core.specs.PrivatePkcs1.{IsPrivatePkcs1}
-use Rattle.register_text.specs.Held.{line_held}
-use Rattle.register_text.specs.Lines.{IsLine}
+use Rattle.ca_register.specs.Held.{line_held}
+use Rattle.ca_register.specs.Lines.{IsLine}
 use Rattle.sig_core.specs.DemoScheme.{demo_verdict}
 use Rattle.ca_register.specs.LineKeys.{key_secret}
 use Rattle.ca_register.proofs.Fillings.{holds_at, line_at, ok_holds, root_filled, root_unfilled}

@@ -1,5 +1,5 @@
 use Rattle.std.proofs.Common.{map}
-use Rattle.register_text.specs.Held.{line_held}
+use Rattle.ca_register.specs.Held.{line_held}
 use Rattle.ca_register.proofs.Answered.{issued_count}
 use Rattle.ca_register.proofs.inquiry.answer_of.Goals as goal
 

@@ -3,8 +3,8 @@ use Rattle.std.proofs.lemmas.Result.{err_from_is_err_and, MatchResult-weaker}
 use Rattle.der_core.specs.DerElement.{DerElement}
 use Rattle.der_core.specs.Writing.{RefusesToWrite}
 use Rattle.der_core.proofs.Inner.{refuses_before, refuses_last, refuses_alone}
-use Rattle.request_types.specs.CertificationRequest.{IsRequest, inner_of_request}
-use Rattle.request_types.specs.Facts.Requests.{requests}
+use Rattle.x509_issuing.specs.CertificationRequest.{IsRequest, inner_of_request}
+use Rattle.x509_issuing.specs.Facts.Requests.{requests}
 use Rattle.x509_issuing.proofs.csr.written.Goals as goal
 
 pub returns-in_err-tree : goal.returns-in_err-tree

@@ -1,6 +1,6 @@
 use Rattle.std.proofs.Common.{◌≡◌, Result, Ok, Err, refl, ap, ◌∙◌}
 use Rattle.der_core.specs.declared.error.DerError.{DerError}
-use Rattle.private_key_types.specs.declared.rsa_private_key.RsaPrivateKey.{RsaPrivateKey}
+use Rattle.key_types.specs.declared.rsa_private_key.RsaPrivateKey.{RsaPrivateKey}
 use Rattle.key_core.specs.KeyRefusals.{unread}
 use Rattle.key_core.specs.declared.element.Element.TheVariants as elements
 use Rattle.key_core.proofs.private_key.PrivateKey.from_pkcs1.Goals as goal

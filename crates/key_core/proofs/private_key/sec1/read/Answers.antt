@@ -1,6 +1,6 @@
 use Rattle.std.proofs.Common.{◌≡◌, Result, Ok, Err, ap, ◌∙◌}
 use Rattle.der_core.specs.declared.error.DerError.{DerError}
-use Rattle.private_key_types.specs.declared.ec_private_key.ECPrivateKey.{ECPrivateKey}
+use Rattle.key_types.specs.declared.ec_private_key.ECPrivateKey.{ECPrivateKey}
 use Rattle.key_core.specs.KeyRefusals.{unread}
 use Rattle.key_core.specs.declared.element.Element.TheVariants as elements
 use Rattle.key_core.proofs.private_key.sec1.read.Goals as goal

@@ -2,7 +2,7 @@ use Rattle.std.proofs.Common.{Err, ap, subst, rules}
 use Rattle.std.proofs.lemmas.Result.{err_from_is_err_and}
 use Rattle.der_core.specs.declared.error.DerError.TheVariants as errors
 use Rattle.der_core.proofs.Exact.{whole_once, no_fault_where_whole, refused_exactly}
-use Rattle.request_types.specs.CertificationRequest.{IsRequest}
+use Rattle.x509_issuing.specs.CertificationRequest.{IsRequest}
 use Rattle.x509_issuing.proofs.ReadCsrs.{read_whole, read_value}
 use Rattle.x509_issuing.proofs.csr.Csr.read.Goals as goal
 

@@ -1,5 +1,5 @@
 use Rattle.std.proofs.Common.{refl}
-use Rattle.request_types.specs.declared.request.CertificationRequest.{CertificationRequest}
+use Rattle.x509_issuing.specs.declared.request.CertificationRequest.{CertificationRequest}
 use Rattle.x509_issuing.proofs.Generating.{made, accepted}
 use Rattle.x509_issuing.proofs.csr.generating.signed.Goals as goal
 

@@ -1,0 +1,10 @@
+use Rattle.std.proofs.Common.{List, subst}
+use Rattle.cms_content.specs.declared.ctl_attribute.CTLEntryAttribute.{CTLEntryAttribute}
+use Rattle.cms_content.specs.declared.ctl_kind.CtlKind.TheVariants as kinds
+use Rattle.cms_content.specs.Attributes.{IsOfKind}
+use Rattle.cms_content.specs.First.{IsFirst}
+use Rattle.cms_content.proofs.listing.attributes.usages_of.Goals as goal
+
+pub returns-in-UnknownReservedPropId127 : goal.returns-in-UnknownReservedPropId127
+returns-in-UnknownReservedPropId127 c =
+    (c.in_ok-attribute.attribute.now, subst (λ (xs : List CTLEntryAttribute). IsFirst (IsOfKind kinds.UnknownReservedPropId127) xs c.in_ok-attribute.attribute.now) c.as_slice.ensures c.in_ok-attribute.ensures, cc (c.in-UnknownReservedPropId127.is, c.as_slice-in-UnknownReservedPropId127.ensures))

@@ -1,2 +1,0 @@
-pub mod ECFields
-mod RsaFields

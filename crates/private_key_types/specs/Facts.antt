@@ -1,4 +1,0 @@
--- Lemmas that facts of values rest on. Nothing in this folder needs reading: no public clause cites
--- it.
-pub mod RsaPrivateKeys
-pub mod ECPrivateKeys

@@ -1,4 +1,0 @@
-pub mod Cuts
-pub mod Numbers
-pub mod Spelling
-pub mod Texts

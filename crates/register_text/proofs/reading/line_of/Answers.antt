@@ -1,7 +1,0 @@
-use Rattle.register_text.specs.Lines.{first_word, issued_words}
-use Rattle.register_text.proofs.Spelling.{first_is_word}
-use Rattle.register_text.proofs.reading.line_of.Goals as goal
-
-pub returns-in_err-first-clause-only : goal.returns-in_err-first-clause-only
-returns-in_err-first-clause-only c line is spelled =
-    absurd (c.in_err-first.ensures.only (first_word line.issuer) (issued_words line.issuer line) (first_is_word line.issuer) spelled)

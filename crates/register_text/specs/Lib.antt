@@ -1,3 +1,0 @@
--- Promises, which public contracts cite.
-pub mod Lines
-pub mod Held

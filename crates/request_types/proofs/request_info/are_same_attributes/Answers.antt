@@ -1,5 +1,0 @@
-use Rattle.request_types.proofs.Requested.{same_attribute_lists}
-use Rattle.request_types.proofs.request_info.are_same_attributes.Goals as goal
-
-pub returns : goal.returns
-returns c = same_attribute_lists _ _ _ c.eq.ensures

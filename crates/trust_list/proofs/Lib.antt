@@ -1,3 +1,0 @@
-pub mod FirstMembers
-pub mod OneListing
-pub mod ListingSteps

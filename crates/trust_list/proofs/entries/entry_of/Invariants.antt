@@ -1,7 +1,0 @@
-use Rattle.trust_list.specs.Attributes.{HasDigest}
-use Rattle.trust_list.specs.First.{HoldsOfNoneBefore}
-use Rattle.trust_list.proofs.entries.entry_of.Given as goal
-
--- none of the entries so far has the digest
-abbrev pub invariant-loop-entry : goal.invariant-loop-entry
-invariant-loop-entry l = HoldsOfNoneBefore (HasDigest l.digest) l.entries l.entry-index

@@ -1,8 +1,0 @@
-use Rattle.trust_list.proofs.OneListing.{listed_unbroken, listing_once}
-use Rattle.trust_list.proofs.laws.listing_has_one_answer.Goals as goal
-
-pub returns-clause-unbroken : goal.returns-clause-unbroken
-returns-clause-unbroken c = listed_unbroken
-
-pub returns-clause-once : goal.returns-clause-once
-returns-clause-once c = listing_once
