@@ -148,15 +148,15 @@ def vector(file, of_it):
     return " ".join(words), "questions={} asked={} others={} accepting: asked={} others={}".format(len(lines), *counts)
 
 
+def stored_files(step=STEP):
+    """The octets of each file, by its path below the folder; of the signature files each `step`th."""
+    rows, told = zip(*(vector(file, of_it) for file, of_it in list(files().items())[::step]))
+    return {path: "".join(f"{line}\n" for line in lines).encode("ascii") for path, lines in (("data/rows", rows), ("stdout", told))}
+
+
 def main(arguments):
     every = arguments[:1] == ["--all"]
-
-    def stored_files():
-        chosen = list(files().items())[::1 if every else STEP]
-        rows, told = zip(*(vector(file, of_it) for file, of_it in chosen))
-        return {path: "".join(f"{line}\n" for line in lines).encode("ascii") for path, lines in (("data/rows", rows), ("stdout", told))}
-
-    return write_stored_run("xgolden_questions.py", stored_files, arguments[every:])
+    return write_stored_run("xgolden_questions.py", lambda: stored_files(1 if every else STEP), arguments[every:])
 
 
 if __name__ == "__main__":

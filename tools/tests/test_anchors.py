@@ -20,12 +20,6 @@ from judges.anchor_judge import Search
 
 class AnchoredPathsTest(unittest.TestCase):
 
-    def test_stored_files(self):
-        for path, octets in xgolden_anchor.stored_files().items():
-            self.assertEqual((folders.CRATES / "xgolden_anchor" / path).read_bytes(), octets, path)
-        for path, octets in xgolden_run.stored_files().items():
-            self.assertEqual((folders.CRATES / "xgolden_run" / path).read_bytes(), octets, path)
-
     def test_both_searches(self):
         links, rows = {}, [*anchor_rows.by_hand(), *anchor_rows.dates(), *anchor_rows.lengths()]
         for *case, why in rows:

@@ -42,10 +42,6 @@ def settled(settings, scheme=rows.DEMO, key=rows.K11):
 
 class StoredRunTest(unittest.TestCase):
 
-    def test_stored_files(self):
-        for path, octets in xgolden_issuing.stored_files().items():
-            self.assertEqual((xgolden_issuing.FOLDER / path).read_bytes(), octets, path)
-
     @unittest.skipUnless(which("openssl"), "openssl isn't there")
     def test_openssl_reads_some(self):
         read = [row for row in xgolden_issuing.stored() if " build " in row[0] or " generate " in row[0]]
