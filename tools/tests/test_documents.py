@@ -25,6 +25,10 @@ BUILT = re.compile(r"/out(?:/|$)|/NAME\b|/x/")
 # A file by its name alone, and the names that stand for any.
 NAME = re.compile(r"(?<![\w*/.{-])([\w.-]*\w\.(?:py|sh|c|h|hpp|antt|rt|md|edit|toml))\b(?![\w*(])")
 ANY = {"NEW.rt", "NEW.antt"}
+# A crate of tests or a golden program.
+CRATE = re.compile(r"\bx(?:golden|test)_[a-z]\w*")
+# Documents with names of files and crates that are gone.
+OF_THE_PAST = {"CHANGELOG.md", "BENCHMARKS.md"}
 TOPS = "bench", "bindings", "crates", "docs", "man", "tools"
 
 
@@ -79,6 +83,13 @@ def missing_names(text: str, names: set[str]) -> Iterator[str]:
             yield f"{name}: no file of this name"
 
 
+def missing_crates(text: str) -> Iterator[str]:
+    """The crates of tests and golden programs in code that aren't there."""
+    for name in dict.fromkeys(it for code in CODE.findall(BLOCK.sub("", text)) for it in CRATE.findall(code)):
+        if not (folders.CRATES / name).exists():
+            yield f"{name}: no such crate"
+
+
 def names_of_files() -> set[str]:
     """The names of all files."""
     found = {path.name for path in folders.ROOT.iterdir()}
@@ -101,11 +112,12 @@ class DocumentsTest(unittest.TestCase):
     def test_files(self):
         names = names_of_files()
         for path in documents():
-            if path.name == "CHANGELOG.md":  # which names files that are gone
-                continue
             text = path.read_text()
+            found = [] if path.name in OF_THE_PAST else [*missing_names(text, names), *missing_crates(text)]
+            if path.name != "CHANGELOG.md":
+                found += missing_paths(text)
             with self.subTest(path=path.relative_to(folders.ROOT)):
-                self.assertEqual([*missing_paths(text), *missing_names(text, names)], [])
+                self.assertEqual(found, [])
 
     def test_readme_is_short(self):
         self.assertLessEqual(len((folders.ROOT / "README.md").read_text().split()), MOST_WORDS)
@@ -123,6 +135,10 @@ class FindingTest(unittest.TestCase):
     def test_a_name_that_no_file_has(self):
         text = "`a.py --all`, `b.rt`, `x/c.py`, `NEW.rt`, d.py"
         self.assertEqual(list(missing_names(text, {"a.py"})), ["b.rt: no file of this name"])
+
+    def test_a_crate_that_is_gone(self):
+        text = "`xgolden_nothing`, `xgolden_value`, xtest_nothing, `crates/xgolden_nor/data`, `xgolden_*`"
+        self.assertEqual(list(missing_crates(text)), ["xgolden_nothing: no such crate", "xgolden_nor: no such crate"])
 
     def test_links_that_lead_nowhere(self):
         path = folders.ROOT / "README.md"
