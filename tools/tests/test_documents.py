@@ -26,7 +26,7 @@ BUILT = re.compile(r"/out(?:/|$)|/NAME\b|/x/")
 NAME = re.compile(r"(?<![\w*/.{-])([\w.-]*\w\.(?:py|sh|c|h|hpp|antt|rt|md|edit|toml))\b(?![\w*(])")
 ANY = {"NEW.rt", "NEW.antt"}
 # A crate of tests or a golden program.
-CRATE = re.compile(r"\bx(?:golden|test)_[a-z]\w*")
+CRATE = re.compile(r"\bx(?:golden|test)_[a-z]\w*\b(?!\.py)")
 # Documents with names of files and crates that are gone.
 OF_THE_PAST = {"CHANGELOG.md", "BENCHMARKS.md"}
 TOPS = "bench", "bindings", "crates", "docs", "man", "tools"
