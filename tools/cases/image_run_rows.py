@@ -6,7 +6,7 @@ docs/FORMATS.md.
 
 from cases.anchor_run_rows import BAD_TABLE, SHELF, SINK, USAGE
 from cases.signature_run_rows import ACCEPTED, LONGEST, MANY_CALLS, ROOM, TOO_LONG, named, refused, zeros
-from golden.xgolden_pe_image import made
+from golden.image_vectors import made
 
 PROGRAM, ROW = made()
 DAY = "2025-01-01"

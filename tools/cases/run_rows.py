@@ -13,7 +13,7 @@ from cases.check_making import file
 from cases.check_parts import DAY, LATER, S, T, I
 from cases.first_path import FILE_HASH, signature_file, verdict_line
 from cases.list_rows import list_with
-from golden.xgolden_pe_image import made
+from golden.image_vectors import made
 from judges import demo_maker
 
 TOO_LONG, BAD_TABLE = (6, ""), (3, "")

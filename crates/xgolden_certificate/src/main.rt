@@ -8,7 +8,7 @@
 //!
 //! KIND is `certificate` or `cms`, which the heads of these modules describe. Words are separated by
 //! spaces, octets and texts are in hexadecimal, `-` for none. A line is printed for each vector, and
-//! an empty one between two files. `tools/golden/xgolden_value.py` makes vectors and golden output.
+//! an empty one between two files. `tools/golden/crates.py` makes vectors and golden output.
 //!
 //! After `time` the file is a sequence of certificates, or signed data; each is read this often, for
 //! `bench/certificates/certificates.py` and `bench/signed_data/signed_data.py`.

@@ -6,7 +6,7 @@
 //! ```
 //!
 //! KIND is `path`, `basic` or `check`, which the heads of these modules describe. Words are separated
-//! by spaces. An empty line is printed between two files. `tools/golden` makes vectors and golden
+//! by spaces. An empty line is printed between two files. `tools/golden/crates.py` makes vectors and golden
 //! output.
 #![tactic(auto)]
 

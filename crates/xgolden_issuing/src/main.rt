@@ -8,7 +8,7 @@
 //!
 //! KIND is `issuing`, `request` or `histories`, which the heads of these modules describe. Words are
 //! separated by spaces, octets are in hexadecimal, `-` for none. A line is printed for each vector,
-//! and an empty one between two files. `tools/golden` makes vectors and golden output.
+//! and an empty one between two files. `tools/golden/crates.py` makes vectors and golden output.
 //!
 //! After `time` the file has certificates separated by commas, the first issued by the second and so
 //! on, a date, and the key of the second. The chain is validated and the first is built this often,

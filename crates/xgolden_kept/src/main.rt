@@ -17,7 +17,7 @@
 //!
 //! Octets are in hexadecimal, `-` for none. SCHEME is `demo`, or a message and its signature
 //! separated by a colon, KEY a private key in PKCS #8, and DIGEST the name of an algorithm.
-//! `tools/golden/xgolden_kept.py` makes such a file, and its golden output. For signed data that is
+//! `tools/golden/crates.py` makes such a file, and its golden output. For signed data that is
 //! the one of `path` of `xgolden_check`, then the digest of the file, and the number of signed and of
 //! unsigned attributes of the first signer, `-` without one; with a token the timestamped signed
 //! data; else signed data with the certificates alone, the signature of a program made with them,

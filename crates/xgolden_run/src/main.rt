@@ -8,7 +8,7 @@
 //!
 //! KIND is `pe`, `image`, `anchor`, `questions`, `register` or `run`, which the heads of these modules
 //! describe. Words are separated by spaces. An empty line is printed between two files.
-//! `tools/golden` makes vectors and golden output.
+//! `tools/golden/crates.py` makes vectors and golden output.
 //!
 //! After `time` the file has one vector. Its register is made, `usable` is called this often for the
 //! last certificate, and each certificate is verified, for `bench/register/register.py`.

@@ -8,7 +8,7 @@
 //! KIND is `value` or `structure`, which the heads of these modules describe, or `extension`, of
 //! structures too. Words are separated by spaces. Octets and texts are in hexadecimal, `-` for
 //! none, other numbers in decimal. A line is printed for each vector, and an empty one between two
-//! files. `tools/golden/xgolden_value.py` makes vectors and golden output.
+//! files. `tools/golden/crates.py` makes vectors and golden output.
 #![tactic(auto)]
 
 mod structure;

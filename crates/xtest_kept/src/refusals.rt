@@ -1,4 +1,4 @@
-//! The texts of refusals. A clause has the texts and the names of all, and `xgolden_basic` prints
+//! The texts of refusals. A clause has the texts and the names of all, and `xgolden_check` prints
 //! each that signature files can have.
 
 use crate::made::{FILE, FILE_HASH, basic_policy, table, table_saying};

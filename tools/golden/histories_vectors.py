@@ -1,16 +1,12 @@
 #!/usr/bin/env python3
-"""Make the files of the stored run of `xgolden_histories`.
+"""Vectors of issuing histories, for `xgolden_issuing`.
 
 Usage:
 
-    python3 tools/golden/xgolden_histories.py FOLDER
-    python3 tools/golden/xgolden_histories.py --count
+    python3 tools/golden/histories_vectors.py --count
 
-The first writes FOLDER/data/rows and FOLDER/stdout.  The histories are those of
+prints how many steps there are and how many are valid, by the number of their ancestors.  The histories are those of
 `drawn_histories`, and `history_judge` says which of their steps are valid.
-
-The second prints how many steps there are and how many are valid, by the number of
-their ancestors.
 """
 
 import sys
@@ -21,7 +17,7 @@ sys.path.insert(0, str(Path(__file__).resolve().parents[1]))
 
 from cases.drawn_histories import histories
 from common import command
-from golden.stored_run import write_stored_run
+from golden.stored_run import Vectors
 from judges.history_judge import ancestors, is_valid
 
 
@@ -42,11 +38,8 @@ def line(date, steps):
     return "".join("1" if is_valid(steps, index, date) else "0" for index in range(len(steps)))
 
 
-def stored_files():
-    """The octets of each file, by its path below the folder."""
-    drawn = histories()
-    texts = {"data/rows": row, "stdout": line}
-    return {path: "".join(f"{of(*history)}\n" for history in drawn).encode() for path, of in texts.items()}
+def vectors():
+    return Vectors.of((row(*history), line(*history)) for history in histories())
 
 
 def counted():
@@ -65,7 +58,8 @@ def counted():
 def main(arguments):
     if arguments == ["--count"]:
         return counted()
-    return write_stored_run("xgolden_histories.py", stored_files, arguments)
+    print("usage: histories_vectors.py --count", file=sys.stderr)
+    return 2
 
 
 if __name__ == "__main__":

@@ -1,11 +1,5 @@
-#!/usr/bin/env python3
-"""Make the files of the stored run of `xgolden_check`.
+"""Vectors of checks under policies, for `xgolden_check`.
 
-Usage:
-
-    python3 tools/golden/xgolden_check.py FOLDER
-
-writes FOLDER/data/cases.txt and FOLDER/stdout, what is answered to the cases.
 A case is a line of words: a signature file, a table, and what is asked of the file,
 any number of times, in the form that `xgolden_check` names.
 
@@ -14,14 +8,8 @@ of `real_policies`, whose answers `check_judge` finds.  What it finds of the row
 to be their answers, and nothing is taken from what the program printed.
 """
 
-import sys
-from pathlib import Path
-
-sys.path.insert(0, str(Path(__file__).resolve().parents[1]))
-
 from cases import check_rows, real_policies
-from common import command
-from golden.stored_run import names_folder, write_stored_run
+from golden.stored_run import Vectors
 from judges.check_judge import answer
 from judges.value_reader import word
 
@@ -69,15 +57,11 @@ def cases():
     return found
 
 
-def stored_files():
-    """The octets of each file, by its path below the folder."""
+def vectors():
     found = cases()
     lines = (" ".join((word(octets), table_word(table), *(one for one, _ in many))) for (octets, table), many in found.items())
     answers = (said for many in found.values() for _, said in many)
-    return {
-        "data/cases.txt": "".join(f"{line}\n" for line in lines).encode("ascii"),
-        "stdout": "".join(f"{line}\n" for line in answers).encode(),
-    }
+    return Vectors(tuple(lines), tuple(answers))
 
 
 def unlike():
@@ -86,16 +70,3 @@ def unlike():
         found = answer(file.octets, policy, file.table)
         if found != said:
             yield f"{why}: {said!r} isn't {found!r}"
-
-
-def main(arguments):
-    if not names_folder("xgolden_check.py", arguments):
-        return 2
-    complaints = list(unlike())
-    for complaint in complaints:
-        print(f"xgolden_check.py: {complaint}", file=sys.stderr)
-    return 1 if complaints else write_stored_run("xgolden_check.py", stored_files, arguments)
-
-
-if __name__ == "__main__":
-    command.run(main, __doc__)

@@ -1,15 +1,14 @@
 #!/usr/bin/env python3
-"""Make the files of the stored run of `xgolden_questions`.
+"""Vectors of the questions of a check, for `xgolden_run`.
 
 Usage:
 
-    python3 tools/golden/xgolden_questions.py [--all] FOLDER
+    python3 tools/golden/questions_vectors.py --all FOLDER
 
-writes FOLDER/data/rows and FOLDER/stdout.  A vector has a signature file of
-`xgolden_check` with its table, the digest that is asked for, dates and intervals, those of
-its policies there and one more of each, and a trust list with the time for it, one of its
-policies or an empty one.  Of the files each eighth is stored, and with `--all` each one is
-written, for a run that isn't stored.
+A vector has a signature file of `check_vectors` with its table, the digest that is asked for, dates and intervals,
+those of its policies there and one more of each, and a trust list with the time for it, one of its policies or an
+empty one.  Of the files each eighth is stored; `--all` writes FOLDER/data/questions and FOLDER/stdout of
+every one, for a run that isn't stored.
 
 How many questions there are is what `question_judge` lists; how many are asked is how
 many rows `check_judge` looks up under the same policies, with the verdicts of the table
@@ -26,8 +25,8 @@ sys.path.insert(0, str(Path(__file__).resolve().parents[1]))
 
 from cases import check_rows, list_rows, real_policies
 from common import command
-from golden.stored_run import write_stored_run
-from golden.xgolden_check import moment_word, table_word
+from golden.check_vectors import moment_word, table_word
+from golden.stored_run import Vectors, stored_files, write_stored_run
 from judges import basic_judge, check_judge, question_judge
 from judges.basic_judge import Refused
 from judges.check_judge import Policy
@@ -148,15 +147,13 @@ def vector(file, of_it):
     return " ".join(words), "questions={} asked={} others={} accepting: asked={} others={}".format(len(lines), *counts)
 
 
-def stored_files(step=STEP):
-    """The octets of each file, by its path below the folder; of the signature files each `step`th."""
-    rows, told = zip(*(vector(file, of_it) for file, of_it in list(files().items())[::step]))
-    return {path: "".join(f"{line}\n" for line in lines).encode("ascii") for path, lines in (("data/rows", rows), ("stdout", told))}
+def vectors(step=STEP):
+    return Vectors.of(vector(file, of_it) for file, of_it in list(files().items())[::step])
 
 
 def main(arguments):
-    every = arguments[:1] == ["--all"]
-    return write_stored_run("xgolden_questions.py", lambda: stored_files(1 if every else STEP), arguments[every:])
+    folder = arguments[1:] if arguments[:1] == ["--all"] else ()
+    return write_stored_run("questions_vectors.py --all", lambda: stored_files({"questions": vectors(1)}), folder)
 
 
 if __name__ == "__main__":

@@ -1,13 +1,6 @@
-#!/usr/bin/env python3
-"""Make the files of the stored runs of `xgolden_value`, `xgolden_structure`,
-`xgolden_extension`, `xgolden_certificate` and `xgolden_cms`.
+"""Vectors of values and structures, for `xgolden_value`, `xgolden_certificate` and `xgolden_issuing`.
 
-Usage:
-
-    python3 tools/golden/xgolden_value.py FOLDER
-
-writes for each PROGRAM of the five FOLDER/PROGRAM/data/rows, the rows that it
-is asked for, and FOLDER/PROGRAM/stdout, a line for each.  The lines come from
+The lines come from
 `value_reader` and `cms_reader`, from Python's arithmetic, `datetime` and
 codecs, from the list in `oid_table`, and for the names and keys of certificates
 from what openssl said of them (`certificate_rows.txt`, which
@@ -16,13 +9,9 @@ keys are among the rows that openssl made (`private_key_rows.txt`, from
 `private_keys.py`).
 """
 
-import sys
 from datetime import datetime
 from hashlib import sha256
-from itertools import chain, filterfalse
-from pathlib import Path
-
-sys.path.insert(0, str(Path(__file__).resolve().parents[1]))
+from itertools import chain
 
 from cases import cms_rows, kept_certificates, kept_private_keys, signature_rows, whole_certificates
 from cases import hostile_certificates as hostile
@@ -30,7 +19,7 @@ from cases import listing_rows as listings
 from cases import structure_rows as structures
 from cases import value_rows as values
 from common import command, folders
-from golden.stored_run import write_stored_run
+from golden.stored_run import Vectors
 from interop import private_keys, world_certificates, world_signatures
 from interop.certificate_parts import STORED, rows_of
 from interop.oid_table import BAD_CONTENTS, BAD_TEXTS, KNOWN, READ, contents
@@ -583,7 +572,7 @@ def stored_signer():
 
 
 def signed_content_rows():
-    """The rows of `xgolden_cms`: what Authenticode signs, texts of Authenticode, digest algorithms."""
+    """The rows of `xgolden_certificate`: what Authenticode signs, texts of Authenticode, digest algorithms."""
     for rows, is_read in (cms_rows.READ, True), (cms_rows.REFUSED, False):
         for kind, elements in rows:
             for element, _ in elements:
@@ -749,7 +738,7 @@ def private_key_rows():
 
 
 def structure_rows():
-    """The rows of `xgolden_structure` and `xgolden_extension`."""
+    """The rows of the kinds `structure`, `extension` and `request`."""
     yield from read_rows()
     yield from unlike_rows()
     yield from made_rows()
@@ -767,33 +756,47 @@ def structure_rows():
     yield from signature_rows.signature_rows()
 
 
-def stored_run(program, rows_and_lines):
-    """The octets of each file of a program's stored run, by its path."""
-    rows = {}
+def once(rows_and_lines):
+    """The vectors of rows, each once."""
+    lines = {}
     for row, line in rows_and_lines:
-        assert rows.setdefault(row, line) == line, row
-    asked = "".join(f"{row}\n" for row in rows)
-    answered = "".join(f"{line}\n" for line in rows.values())
-    yield f"{program}/data/rows", asked.encode("ascii")
-    yield f"{program}/stdout", answered.encode("ascii")
+        assert lines.setdefault(row, line) == line, row
+    return Vectors(tuple(lines), tuple(lines.values()))
+
+
+def kind_of(row_and_line):
+    """What a row of `structure_rows` is about: its second word."""
+    row, _ = row_and_line
+    return row.split()[1]
 
 
 def is_extension(row_and_line):
-    """Whether a row is one of `xgolden_extension`: its second word says so."""
-    row, _ = row_and_line
-    return row.split()[1] in ("extension", "general_name", "general_names", "validity", "valued_attribute", "request")
+    return kind_of(row_and_line) in ("extension", "general_name", "general_names", "validity", "valued_attribute")
 
 
-def stored_files():
-    """The octets of each file, by its path below the folder of the crates."""
-    return dict([
-        *stored_run("xgolden_value", value_rows()),
-        *stored_run("xgolden_structure", filterfalse(is_extension, structure_rows())),
-        *stored_run("xgolden_extension", filter(is_extension, structure_rows())),
-        *stored_run("xgolden_certificate", chain(whole_certificate_rows(), world_rows())),
-        *stored_run("xgolden_cms", chain(signed_content_rows(), world_signature_rows(), listing_rows())),
-    ])
+def is_request(row_and_line):
+    return kind_of(row_and_line) == "request"
 
 
-if __name__ == "__main__":
-    command.run(lambda words: write_stored_run("xgolden_value.py", stored_files, words), __doc__)
+def values_alone():
+    return once(value_rows())
+
+
+def structures_alone():
+    return once(row for row in structure_rows() if not is_extension(row) and not is_request(row))
+
+
+def extensions():
+    return once(filter(is_extension, structure_rows()))
+
+
+def requests():
+    return once(filter(is_request, structure_rows()))
+
+
+def certificates():
+    return once(chain(whole_certificate_rows(), world_rows()))
+
+
+def signed_structures():
+    return once(chain(signed_content_rows(), world_signature_rows(), listing_rows()))

@@ -1,12 +1,6 @@
-#!/usr/bin/env python3
-"""Make the files of the stored run of `xgolden_path`.
+"""Vectors of issuer walks, for `xgolden_check`: signed data in hexadecimal digits.
 
-Usage:
-
-    python3 tools/golden/xgolden_path.py FOLDER
-
-writes FOLDER/data/rows, signed data in hexadecimal digits, and FOLDER/stdout,
-what is answered to them: the number of certificates, the place of the
+What is answered to them is the number of certificates, the place of the
 signer's, and the places of the issuer walk, those with the signer's subject in
 parentheses.  The first rows are those of `CASES`, which have their answers;
 the others are the signatures of `world_signatures`, whose answers are found
@@ -14,16 +8,10 @@ by the definitions, with the readers of `der_reader`, `cms_reader` and
 `value_reader`.  What these find of the first rows has to be their answers.
 """
 
-import sys
-from pathlib import Path
-
-sys.path.insert(0, str(Path(__file__).resolve().parents[1]))
-
 from cases.first_path import (
     COMMON_NAME, RSA_ENCRYPTION, SIGNED_DATA, SHA256, SignatureFile, algorithm, context, context_primitive, element, identifier, integer, name, octet_string, sequence, set_of,
 )
-from common import command
-from golden.stored_run import write_stored_run
+from golden.stored_run import Vectors
 from interop.world_signatures import stored
 from judges.cms_reader import pkcs7
 from judges.der_reader import Constructed, Malformed, read_exact
@@ -156,22 +144,14 @@ def answer(octets):
     return " ".join((f"{len(bag)} {place}:", *words))
 
 
-def stored_files():
-    """The octets of each file, by its path below the folder."""
+def vectors():
     rows = [(octets, said) for _, octets, said in CASES]
     rows += ((octets, answer(octets)) for _, kind, octets in stored() if kind == "pkcs7")
-    return {
-        "data/rows": "".join(f"{octets.hex()}\n" for octets, _ in rows).encode("ascii"),
-        "stdout": "".join(f"{said}\n" for _, said in rows).encode("ascii"),
-    }
+    return Vectors.of((octets.hex(), said) for octets, said in rows)
 
 
-def main(arguments):
-    unlike = [(label, said, answer(octets)) for label, octets, said in CASES if answer(octets) != said]
-    for label, said, found in unlike:
-        print(f"xgolden_path.py: {label}: {said!r} isn't {found!r}", file=sys.stderr)
-    return 1 if unlike else write_stored_run("xgolden_path.py", stored_files, arguments)
-
-
-if __name__ == "__main__":
-    command.run(main, __doc__)
+def unlike():
+    """The rows of which the readers say otherwise."""
+    for label, octets, said in CASES:
+        if answer(octets) != said:
+            yield f"{label}: {said!r} isn't {answer(octets)!r}"

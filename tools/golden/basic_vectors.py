@@ -1,11 +1,5 @@
-#!/usr/bin/env python3
-"""Make the files of the stored run of `xgolden_basic`.
+"""Vectors of basic validation, for `xgolden_check`.
 
-Usage:
-
-    python3 tools/golden/xgolden_basic.py FOLDER
-
-writes FOLDER/data/cases.txt and FOLDER/stdout, what is answered to the cases.
 A case is a line of words in hexadecimal digits, `-` for none: a signature file,
 the digest that is asked for, the text of a table, and any number of changes.  A
 change is a place in two octets and the octet that comes there instead, and each
@@ -18,14 +12,8 @@ What it finds of the rows has to be their answers, and nothing is taken from
 what the program printed.
 """
 
-import sys
-from pathlib import Path
-
-sys.path.insert(0, str(Path(__file__).resolve().parents[1]))
-
 from cases import basic_rows, basic_steps, basic_world, made_signatures
-from common import command
-from golden.stored_run import names_folder, write_stored_run
+from golden.stored_run import Vectors
 from judges.basic_judge import answer
 from judges.value_reader import word
 
@@ -46,13 +34,9 @@ def cases():
         yield (file, bytes.fromhex(file_hash), table.encode(), *words), said
 
 
-def stored_files():
-    """The octets of each file, by its path below the folder."""
+def vectors():
     found = list(cases())
-    return {
-        "data/cases.txt": "".join(f"{' '.join(map(word, words))}\n" for words, _ in found).encode("ascii"),
-        "stdout": "".join(f"{line}\n" for _, said in found for line in said).encode(),
-    }
+    return Vectors(tuple(" ".join(map(word, words)) for words, _ in found), tuple(line for _, said in found for line in said))
 
 
 def unlike():
@@ -61,18 +45,5 @@ def unlike():
         found = answer(file, bytes.fromhex(file_hash), table)
         if found != said:
             yield f"{why}: {said!r} isn't {found!r}"
-
-
-def main(arguments):
-    if not names_folder("xgolden_basic.py", arguments):
-        return 2
-    complaints = list(unlike())
     if basic_rows.wrapped(basic_rows.encoded(basic_rows.LINES)) != basic_rows.FILE:
-        complaints.append("the lines are not those of the file")
-    for complaint in complaints:
-        print(f"xgolden_basic.py: {complaint}", file=sys.stderr)
-    return 1 if complaints else write_stored_run("xgolden_basic.py", stored_files, arguments)
-
-
-if __name__ == "__main__":
-    command.run(main, __doc__)
+        yield "the lines are not those of the file"

@@ -1,13 +1,6 @@
-#!/usr/bin/env python3
-"""Make the files of the stored run of `xgolden_pe_image`.
+"""Vectors of checks of programs, for `xgolden_run`: programs with their verdict tables, each with its answer.
 
-Usage:
-
-    python3 tools/golden/xgolden_pe_image.py FOLDER
-
-writes FOLDER/data/rows, programs with their verdict tables, and FOLDER/stdout, what
-is answered to them, which stands beside each row: a program of zeros signed as
-`first_path` makes signatures, changed, and the programs of `signed_images.txt`.
+They are a program of zeros signed as `first_path` makes signatures, changed, and the programs of `signed_images.txt`.
 """
 
 import sys
@@ -20,8 +13,7 @@ sys.path.insert(0, str(Path(__file__).resolve().parents[1]))
 import signed_program
 from cases.first_path import INDIRECT_DATA, SHA256, SignatureFile, identifier
 from cases.pe_rows import Image, changed
-from common import command
-from golden.stored_run import write_stored_run
+from golden.stored_run import Vectors
 from interop.signed_images import stored
 from judges import asked_signatures
 from judges.pe_judge import bound, places
@@ -68,16 +60,8 @@ def signed_cases():
             yield f"{image.label}, {image.algorithm}, octet {at} changed", changed(image.octets, at, bytes([image.octets[at] ^ 1])), text, "refused FileHashMismatch"
 
 
-def stored_files():
-    """The files by their paths in the folder of the crate."""
-    rows = [(f"{octets.hex() or '-'} {table.encode().hex() or '-'} {moment}", line)
-            for moment, found in ((MADE_AT, made_cases()), (SIGNED_AT, signed_cases())) for _, octets, table, line in found]
-    return {path: "".join(f"{row[place]}\n" for row in rows).encode() for place, path in enumerate(("data/rows", "stdout"))}
-
-
-def main(arguments):
-    return write_stored_run("xgolden_pe_image.py", stored_files, arguments)
-
-
-if __name__ == "__main__":
-    command.run(main, __doc__)
+def vectors():
+    return Vectors.of(
+        (f"{octets.hex() or '-'} {table.encode().hex() or '-'} {moment}", line)
+        for moment, found in ((MADE_AT, made_cases()), (SIGNED_AT, signed_cases())) for _, octets, table, line in found
+    )

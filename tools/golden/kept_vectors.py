@@ -1,12 +1,6 @@
-#!/usr/bin/env python3
-"""Make the files of the stored run of `xgolden_kept`.
+"""Vectors of owned signatures, for `xgolden_kept`: signed data in hexadecimal digits.
 
-Usage:
-
-    python3 tools/golden/xgolden_kept.py FOLDER
-
-writes FOLDER/data/rows, signed data in hexadecimal digits, and FOLDER/stdout,
-what is answered to them.  The rows are those of `xgolden_path` and those of
+The rows are those of `path_vectors` and those of
 `CASES` below, and so is the front of each answer; behind it are the digest
 of the file, where the content is indirect data, and how many signed and how
 many unsigned attributes the first signer has, `-` where there is no signer.  They
@@ -19,18 +13,12 @@ the signed data stamped by the token, put together of its elements (RFC 5652
 of certificates alone, are those of `made_signatures`.
 """
 
-import sys
-from pathlib import Path
-
-sys.path.insert(0, str(Path(__file__).resolve().parents[1]))
-
 from cases import made_signatures
 from cases.first_path import (
     SHA256, SIGNED_DATA, algorithm, context, identifier, integer, name, octet_string, sequence, set_of,
 )
-from common import command
-from golden.xgolden_path import A, B, BY_A, CASES as PATH_CASES, S, answer as places, around, read_fields, signed_data, signer, with_members
-from golden.stored_run import write_stored_run
+from golden.path_vectors import A, B, BY_A, CASES as PATH_CASES, S, answer as places, around, read_fields, signed_data, signer, with_members
+from golden.stored_run import Vectors
 from interop.world_signatures import stored
 from judges.der_reader import Constructed, Primitive, encoding, read_exact
 
@@ -169,8 +157,7 @@ def answer(octets):
     return f"{places(octets)} hash={file_hash(parts[2])} signed={count(signers, 0xA0)} unsigned={count(signers, 0xA1)}"
 
 
-def stored_files():
-    """The octets of each file, by its path below the folder."""
+def vectors():
     rows = [octets for _, octets, _ in PATH_CASES + CASES]
     rows += [octets for _, kind, octets in stored() if kind == "pkcs7"]
     lines = [octets.hex() for octets in rows] + [f"{octets.hex()} {token.hex()}" for _, octets, token in STAMPS]
@@ -178,16 +165,14 @@ def stored_files():
     made = [*made_signatures.alone_rows(), *made_signatures.made_rows(), *made_signatures.built_rows()]
     lines += [words for words, _ in made]
     answers += [said for _, said in made]
-    return {name: "".join(f"{line}\n" for line in many).encode("ascii") for name, many in (("data/rows", lines), ("stdout", answers))}
+    return Vectors(tuple(lines), tuple(answers))
 
 
-def main(arguments):
-    unlike = [(label, said, answer(octets)) for label, octets, said in CASES if answer(octets) != said]
-    unlike += [(label, said, answer(octets)) for label, octets, said in PATH_CASES if not answer(octets).startswith(said)]
-    for label, said, found in unlike:
-        print(f"xgolden_kept.py: {label}: {said!r} isn't {found!r}", file=sys.stderr)
-    return 1 if unlike else write_stored_run("xgolden_kept.py", stored_files, arguments)
-
-
-if __name__ == "__main__":
-    command.run(main, __doc__)
+def unlike():
+    """The rows of which the readers say otherwise."""
+    for label, octets, said in CASES:
+        if answer(octets) != said:
+            yield f"{label}: {said!r} isn't {answer(octets)!r}"
+    for label, octets, said in PATH_CASES:
+        if not answer(octets).startswith(said):
+            yield f"{label}: {said!r} isn't the front of {answer(octets)!r}"

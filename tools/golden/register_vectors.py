@@ -1,17 +1,16 @@
 #!/usr/bin/env python3
-"""Make the files of the stored run of `xgolden_register`.
+"""Vectors of registers of a CA, for `xgolden_run`.
 
 Usage:
 
-    python3 tools/golden/xgolden_register.py FOLDER
-    python3 tools/golden/xgolden_register.py --count
+    python3 tools/golden/register_vectors.py --count
 
-The first writes FOLDER/data/rows and FOLDER/stdout.  The calls are those of `drawn_registers` and of
-`enrolled_requests`, and `register_judge` says what each returns and which certificates are accepted.
-`tools/interop/enrolled_requests.py --check` has openssl read what is issued for requests of openssl.
+prints how often each answer comes in `drawn_registers`, how many certificates there are, and how many of them are
+accepted, by the number of their ancestors.
 
-The second prints how often each answer comes in `drawn_registers`, how many certificates there are,
-and how many of them are accepted, by the number of their ancestors.
+The calls are those of `drawn_registers` and of `enrolled_requests`, and `register_judge` says what each returns and
+which certificates are accepted.  `tools/interop/enrolled_requests.py --check` has openssl read what is issued for
+requests of openssl.
 """
 
 import sys
@@ -23,7 +22,7 @@ sys.path.insert(0, str(Path(__file__).resolve().parents[1]))
 from cases import enrolled_requests
 from cases.drawn_registers import registers
 from common import command
-from golden.stored_run import write_stored_run
+from golden.stored_run import Vectors
 from judges.register_judge import answers, is_accepted, with_ancestors
 
 
@@ -46,11 +45,9 @@ def line(date, calls):
     return " ".join([*(word for answer in words for word in answer), marks])
 
 
-def stored_files():
-    """The octets of each file, by its path below the folder."""
+def vectors():
     drawn = [(row(*register), line(*register)) for register in registers()]
-    rows, lines = zip(*drawn, *enrolled_requests.rows())
-    return {path: "".join(f"{text}\n" for text in texts).encode() for path, texts in (("data/rows", rows), ("stdout", lines))}
+    return Vectors.of([*drawn, *enrolled_requests.rows()])
 
 
 def counted():
@@ -74,7 +71,8 @@ def counted():
 def main(arguments):
     if arguments == ["--count"]:
         return counted()
-    return write_stored_run("xgolden_register.py", stored_files, arguments)
+    print("usage: register_vectors.py --count", file=sys.stderr)
+    return 2
 
 
 if __name__ == "__main__":
