@@ -6,13 +6,11 @@ what is random comes from a seed, and keys of openssl are stored.
 
 from collections.abc import Callable
 from dataclasses import dataclass
+from functools import partial
 
 from cases import anchor_rows, anchor_run_rows, first_path
 from common import folders
-from golden import (
-    picky_ask, xgolden_anchor, xgolden_basic, xgolden_check, xgolden_der, xgolden_histories, xgolden_issuing, xgolden_kept,
-    xgolden_path, xgolden_pe, xgolden_pe_image, xgolden_questions, xgolden_register, xgolden_run, xgolden_value,
-)
+from golden import crates, picky_ask
 from interop import signed_programs
 from judges import demo_maker, register_lines
 
@@ -61,28 +59,18 @@ def of_picky_ca():
     return {"data/register.txt": text.encode("ascii"), "stdout": f"{line}\n".encode("ascii")}
 
 
-def of_module(module, seconds=1.0):
-    """The script of one crate, which has its name."""
-    name = module.__name__.rpartition(".")[2]
-    return StoredRun(name, (name,), module.stored_files, seconds)
+# About how many seconds the vectors of a golden program take.
+SECONDS = {"xgolden_check": 9, "xgolden_certificate": 8, "xgolden_run": 28}
+
+
+def of_crate(name):
+    """A golden program, by its kinds of vectors."""
+    return StoredRun("crates", (name,), partial(crates.stored_files, name), SECONDS.get(name, 2))
 
 
 STORED_RUNS = (
-    of_module(xgolden_anchor, 5),
-    of_module(xgolden_basic, 3),
-    of_module(xgolden_check, 6),
-    of_module(xgolden_der),
-    of_module(xgolden_histories),
-    of_module(xgolden_issuing),
-    of_module(xgolden_kept),
-    of_module(xgolden_path),
-    of_module(xgolden_pe),
-    of_module(xgolden_pe_image),
-    of_module(xgolden_questions, 20),
-    of_module(xgolden_register, 2),
-    of_module(xgolden_run),
-    StoredRun("xgolden_value", ("xgolden_value", "xgolden_structure", "xgolden_extension", "xgolden_certificate", "xgolden_cms"), xgolden_value.stored_files, 10),
-    of_module(picky_ask),
+    *map(of_crate, (crates.DER, *crates.CRATES)),
+    StoredRun("picky_ask", ("picky_ask",), picky_ask.stored_files),
     StoredRun("signed_programs", ("picky",), of_picky),
     StoredRun("signed_programs", ("picky_pe",), of_picky_pe),
     StoredRun("anchor_rows", ("picky_anchor",), of_picky_anchor),

@@ -12,7 +12,7 @@ sys.path.insert(0, str(Path(__file__).resolve().parents[1]))
 from cases import anchor_rows, drawn_anchors
 from cases.issuing_rows import DEMO
 from common import folders
-from golden import compare_anchor, xgolden_anchor, xgolden_run
+from golden import compare_anchor
 from interop import anchored_paths
 from judges import anchor_search
 from judges.anchor_judge import Search

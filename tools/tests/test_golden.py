@@ -10,6 +10,7 @@ from pathlib import Path
 sys.path.insert(0, str(Path(__file__).resolve().parents[1]))
 
 from common import folders
+from golden import crates, stored_run
 from golden.stored_runs import STORED_RUNS, StoredRun
 
 
@@ -48,8 +49,17 @@ class ListTest(unittest.TestCase):
         self.assertEqual(listed, sorted(file.parent.name for file in folders.CRATES.glob("*/stdout")))
 
     def test_each_script_is_listed(self):
-        scripts = {file.stem for file in (folders.ROOT / "tools/golden").glob("xgolden_*.py")}
-        self.assertEqual(scripts - {run.made_by for run in STORED_RUNS}, set())
+        scripts = {file.stem for file in (folders.ROOT / "tools/golden").glob("*_vectors.py")}
+        used = {makes.__module__ for kinds in crates.CRATES.values() for makes in kinds.values()} | {crates.der_vectors.__name__}
+        self.assertEqual({f"golden.{script}" for script in scripts} - used, set())
+
+    def test_each_kind_is_an_argument(self):
+        for crate, kinds in crates.CRATES.items():
+            self.assertEqual((folders.CRATES / crate / "args").read_bytes(), stored_run.args_of(kinds), crate)
+
+    def test_what_tools_read_is_what_is_stored(self):
+        for kind, makes in crates.CRATES["xgolden_issuing"].items():
+            self.assertEqual(stored_run.stored("xgolden_issuing", kind), makes(), kind)
 
     def test_what_differs(self):
         made = {"a/stdout": b"1\n", "a/data/rows": b"x"}

@@ -35,7 +35,7 @@ from common import folders
 from common.openssl import OpensslError, openssl
 from gate import run_program, unused_calls
 from golden import (
-    compare_basic, compare_check, compare_readers, reader_stand_in, xgolden_basic, xgolden_check, xgolden_kept, xgolden_path,
+    basic_vectors, check_vectors, compare_basic, compare_check, compare_readers, kept_vectors, path_vectors, reader_stand_in,
 )
 from golden.compare_readers import Comparison, block_line, case_file, cases_of, inputs, spelled
 from interop import certificate_parts, chains, oid_table, signed_files, signed_images, signed_programs, world_certificates, world_signatures
@@ -191,10 +191,10 @@ class BasicAnswersTest(unittest.TestCase):
         self.assertEqual(made, basic_rows.FILE)
 
     def test_answers_are_those_by_hand(self):
-        self.assertEqual(list(xgolden_basic.unlike()), [])
+        self.assertEqual(list(basic_vectors.unlike()), [])
 
     def test_every_refusal_has_a_row(self):
-        names = {said.split()[0] for *_, said in xgolden_basic.rows()}
+        names = {said.split()[0] for *_, said in basic_vectors.rows()}
         self.assertEqual(names, {
             "WrongLength", "CertificateDataIsEmpty", "WrongRevisionValue", "WrongCertificateType", "Io", "Asn1Deserialization",
             "IncorrectVersion", "MultipleSignerInfo", "IncorrectDigestAlgorithmsCount", "NoEncapsulatedContentInfo", "NoSpcIndirectDataContent",
@@ -216,11 +216,11 @@ class CheckAnswersTest(unittest.TestCase):
     SECONDS = 6
 
     def test_answers_are_those_by_hand(self):
-        self.assertEqual(list(xgolden_check.unlike()), [])
+        self.assertEqual(list(check_vectors.unlike()), [])
 
     def test_every_refusal_and_excuse_has_a_row(self):
         said = [row.said.split() for row in check_rows.rows()]
-        self.assertEqual({words[1] for words in said if words[0] == "refused"} - {said.split()[0] for *_, said in xgolden_basic.rows()}, {
+        self.assertEqual({words[1] for words in said if words[0] == "refused"} - {said.split()[0] for *_, said in basic_vectors.rows()}, {
             "MissingExpectedFileHash", "MissingBuilderArgument", "InvalidCertificate:CertificateNotYetValid", "InvalidCertificate:CertificateExpired",
             "InvalidChain:IssuerIsNotCA", "InvalidChain:TooDeep", "InvalidCertificate:ExtensionNotFound", "InvalidCertificate:InvalidChain:AuthorityKeyIdMismatch",
             "InvalidCertificate:InvalidChain:IssuerNameMismatch", "Signature", "InvalidCertificate:Signature", "InvalidTimestampCert",
@@ -266,8 +266,8 @@ class SignedProgramsTest(unittest.TestCase):
 class PathAnswersTest(unittest.TestCase):
 
     def test_answers_are_those_by_hand(self):
-        for label, octets, said in xgolden_path.CASES:
-            self.assertEqual(xgolden_path.answer(octets), said, label)
+        for label, octets, said in path_vectors.CASES:
+            self.assertEqual(path_vectors.answer(octets), said, label)
 
 
 class SignedFilesTest(unittest.TestCase):
@@ -291,8 +291,8 @@ class SignedFilesTest(unittest.TestCase):
 class KeptAnswersTest(unittest.TestCase):
 
     def test_answers_are_those_by_hand(self):
-        for label, octets, said in xgolden_kept.CASES:
-            self.assertEqual(xgolden_kept.answer(octets), said, label)
+        for label, octets, said in kept_vectors.CASES:
+            self.assertEqual(kept_vectors.answer(octets), said, label)
 
 
 class MadeSignaturesTest(unittest.TestCase):
@@ -645,7 +645,7 @@ import sys
 sys.path.insert(0, {tools!r})
 from judges.basic_judge import answer
 octets = lambda word: b"" if word == "-" else bytes.fromhex(word)
-for line in open(sys.argv[1]):
+for line in open(sys.argv[2]):
     file, file_hash, table = map(octets, line.split())
     print(answer(file, file_hash, table.decode()){changed})
 """
@@ -680,7 +680,7 @@ class CompareCheckTest(unittest.TestCase):
             made.extend(compare_basic.cases(*words))
             return made
 
-        lines = lambda _, rows: [judge(*one) for one in made]
+        lines = lambda _, kind, rows: [judge(*one) for one in made]
         with patch("golden.compare_check.cases", cases), patch("golden.compare_basic.printed", lines), patch("builtins.print") as printed:
             return compare_check.main(["--count", "50", sys.executable]), printed.call_args.args[0]
 
@@ -772,7 +772,7 @@ class RunsTest(unittest.TestCase):
     def test_rows(self):
         self.assertEqual({row.status for row in run_program.ROWS}, set(range(7)))
         names = {row.line.split()[1] for row in run_program.ROWS if row.status == 1 and row.words[0] == "basic"}
-        self.assertEqual(names, {said.split()[0] for *_, said in xgolden_basic.rows()} - {"accepted"})
+        self.assertEqual(names, {said.split()[0] for *_, said in basic_vectors.rows()} - {"accepted"})
         checked = {row.line for row in run_program.CHECK_ROWS + run_program.LIST_ROWS}
         lines = (run_program.line_of(row.said) for row in check_rows.rows() if run_program.words_of(row.policy))
         self.assertEqual({line for line in lines if line.startswith("refused")} - checked, set())
