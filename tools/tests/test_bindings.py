@@ -1,8 +1,6 @@
 """Tests of the wrappers in `bindings/`, over libraries in C in the place of the proved one.
 
     python3 -m unittest discover -s tools/tests
-
-As in `tools/gate/bindings.py`, a language whose compiler isn't there is left out, and named.
 """
 
 import importlib.util
@@ -37,10 +35,7 @@ uint8_t picky_check_bytes(const uint8_t *words, size_t words_length, const uint8
     return 0;
 }
 """
-OTHERS = (
-    "pe_bytes", "chain_bytes", "ask_bytes", "table_parse", "table_free", "check_with_table", "pe_with_table",
-    "chain_with_table",
-)
+OTHERS = "pe_bytes", "chain_bytes", "ask_bytes", "table_parse", "table_free", "check_with_table", "pe_with_table", "chain_with_table"
 OF_KIT = "const char *word_of_kit(void);\nconst char *word_of_kit(void) { return \"WORD\"; }\n"
 
 
@@ -61,10 +56,9 @@ def write_kit(folder, word):
     library(folder, "liblibc_c.a", OF_KIT.replace("WORD", word))
 
 
+@unittest.skipUnless(which("cargo"), "cargo isn't there")
 class RustTest(unittest.TestCase):
-    """The crate links what the libraries are now, and what a caller of it can write."""
-
-    COMPILER, SECONDS = "cargo", 8
+    """The crate links what the libraries are now."""
 
     def test_another_library_is_linked_again(self):
         with TemporaryDirectory() as name:
@@ -86,31 +80,28 @@ class RustTest(unittest.TestCase):
         with TemporaryDirectory() as name:
             crate = Path(name) / "libpicky_door.rmeta"
             subprocess.run(
-                ["rustc", "--edition=2021", "--crate-name=picky_door", "--crate-type=lib", "--emit=metadata",
-                 "-o", crate, BINDINGS / "rust/src/lib.rs"], check=True)
+                ["rustc", "--edition=2021", "--crate-name=picky_door", "--crate-type=lib", "--emit=metadata", "-o", crate,
+                 BINDINGS / "rust/src/lib.rs"], check=True)
             for body, is_compiled in (
                 ("let _ = picky_door::check(&[], b\"\", b\"\", b\"\");", True),
                 ("picky_door::check(&[], b\"\", b\"\", b\"\");", False),
                 ("let _: Box<dyn std::error::Error> = picky_door::TableError::BadTable.into();", True),
             ):
                 done = subprocess.run(
-                    ["rustc", "--edition=2021", "--crate-type=lib", "--emit=metadata", "--out-dir", name,
-                     "-Dwarnings", "-", "--extern", f"picky_door={crate}"],
-                    input=f"pub fn call() {{ {body} }}\n", capture_output=True, text=True)
+                    ["rustc", "--edition=2021", "--crate-type=lib", "--emit=metadata", "--out-dir", name, "-Dwarnings", "-",
+                     "--extern", f"picky_door={crate}"], input=f"pub fn call() {{ {body} }}\n", capture_output=True, text=True)
                 with self.subTest(body=body):
                     self.assertEqual(done.returncode == 0, is_compiled, done.stderr)
 
 
+@unittest.skipUnless(which("c++"), "no compiler of C++ is there")
 class CppTest(unittest.TestCase):
     """What a caller in C++ can't write."""
-
-    COMPILER, SECONDS = "c++", 6
 
     def compiled(self, body, standard="c++17"):
         program = f'#include "picky.hpp"\nint main() {{ {body} }}\n'
         return subprocess.run(
-            ["c++", f"-std={standard}", "-fsyntax-only", "-Wall", "-Wextra", "-Werror", f"-I{BINDINGS}/c",
-             f"-I{BINDINGS}/cpp", "-x", "c++", "-"],
+            ["c++", f"-std={standard}", "-fsyntax-only", "-Wall", "-Wextra", "-Werror", f"-I{BINDINGS}/c", f"-I{BINDINGS}/cpp", "-x", "c++", "-"],
             input=program, capture_output=True, text=True)
 
     def is_compiled(self, body):
@@ -148,23 +139,10 @@ class HeadTest(unittest.TestCase):
 
     def test_heads(self):
         for name in HEADS:
-            lines = (BINDINGS / name).read_text().splitlines()[:16]
-            head = re.sub(r"\s+(?:\*|//!?)?\s*", " ", "\n".join(lines))
+            head = re.sub(r"\s+(?:\*|//!?)?\s*", " ", "\n".join((BINDINGS / name).read_text().splitlines()[:16]))
             with self.subTest(name=name):
                 self.assertIn("is vouched for by nobody", head)
                 self.assertIn("compare the whole line with the one that you expect", head)
-
-
-def load_tests(loader, _, __):
-    """The tests of each language whose compiler is there."""
-    suite = unittest.TestSuite()
-    for one in (HeadTest, PythonTest, CppTest, RustTest):
-        compiler = getattr(one, "COMPILER", None)
-        if compiler and not which(compiler):
-            print(f"{one.__name__} is left out: {compiler} isn't there", file=sys.stderr)
-        else:
-            suite.addTests(loader.loadTestsFromTestCase(one))
-    return suite
 
 
 if __name__ == "__main__":
