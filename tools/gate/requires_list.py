@@ -22,6 +22,7 @@ import re
 import sys
 from collections import Counter
 from collections.abc import Iterator
+from functools import cache
 from pathlib import Path
 
 sys.path.insert(0, str(Path(__file__).resolve().parents[1]))
@@ -45,6 +46,7 @@ IN_README = re.compile(
 
 # The sources.
 
+@cache
 def asking(crate: Path) -> list[str]:
     """The public calls of a library that have a `requires`."""
     tables, traits = calls_and_traits(crate)
@@ -80,25 +82,28 @@ def leaves(clause: str) -> bool:
     return True
 
 
-def failing(crate: Path) -> Iterator[tuple[str, bool]]:
+@cache
+def failing(crate: Path) -> list[tuple[str, bool]]:
     """The public calls of a library that change a value and may fail, and whether they leave it as it was."""
-    for file in sorted(crate.glob("src/**/*.rt")):
-        for call in after_errors.calls_of(crate.name, file.read_text(encoding="utf-8")):
-            if " as " not in call.block:
-                yield f"{re.match(r'[^<]*', call.block)[0]}::{call.name}", all(map(leaves, call.said))
+    texts = [file.read_text(encoding="utf-8") for file in sorted(crate.glob("src/**/*.rt"))]
+    found = [call for text in texts for call in after_errors.calls_of(crate.name, text) if " as " not in call.block]
+    return [(f"{re.match(r'[^<]*', call.block)[0]}::{call.name}", all(map(leaves, call.said))) for call in found]
 
 
-def unsafe_in(crate: Path) -> Iterator[str]:
+@cache
+def unsafe_in(crate: Path) -> list[str]:
     """Each `unsafe` of a crate and each function exported to C, as the file and what stands there."""
+    found = []
     for file in sorted(crate.glob("src/**/*.rt")):
         text, shown = masked(file.read_text(encoding="utf-8")), f"{crate.name}/{file.relative_to(crate).as_posix()}"
         for match in UNSAFE.finditer(text):
             if match["attribute"] is None:
                 what = match["block"] or match["impl"] and f"impl {match['impl']}" or match["fn"] or match["other"] or "unsafe"
-                yield f"{shown}: {' '.join(what.split())}"
+                found.append(f"{shown}: {' '.join(what.split())}")
         exported = {name: None for name in EXPORT.findall(text)}
         exported |= {name: None for name in re.findall(r"#\[unsafe\(\w+[^\]]*\)\]\s*(?:#\[[^\]]*\]\s*)*[^{;]*?\bfn\s+(\w+)", text)}
-        yield from (f"{shown}: {name}" for name in exported)
+        found += [f"{shown}: {name}" for name in exported]
+    return found
 
 
 # The documents.
@@ -171,8 +176,8 @@ def main(words: list[str]) -> int:
     found += [line for crate in crates if (crate / "README.md").is_file() for line in of_readme(crate)]
     for line in found:
         print(line)
-    asked, failed = sum(len(asking(crate)) for crate in crates), sum(len(list(failing(crate))) for crate in crates)
-    unsafe = sum(len(list(unsafe_in(crate))) for crate in every)
+    asked, failed = sum(len(asking(crate)) for crate in crates), sum(len(failing(crate)) for crate in crates)
+    unsafe = sum(len(unsafe_in(crate)) for crate in every)
     print(f"{len(crates)} libraries: {asked} calls with a requires, {failed} that change a value and may fail, "
           f"{unsafe} places with unsafe or exported; differences: {len(found)}")
     return 1 if found else 0
