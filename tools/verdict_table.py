@@ -1,5 +1,5 @@
 #!/usr/bin/env python3
-"""Print the verdict table that openssl's arithmetic gives for the questions of `picky_ask`.
+"""Print the verdict table for the questions of `picky_ask`, by the arithmetic of Python's package `cryptography`.
 
     picky_ask SIG | python3 tools/verdict_table.py > TABLE
     picky_ask --chain CERT .. | python3 tools/verdict_table.py > TABLE
@@ -8,7 +8,7 @@
 Each line read is a question in the form that docs/FORMATS.md gives: the row that a table
 has for it, then key bytes, message and signature in hexadecimal.  The table is of version
 2: it says `malformed` of a signature whose length or form none of the algorithm has,
-`accept` of another that openssl verifies, and `reject` of one that openssl finds false.
+`accept` of another that `cryptography` verifies, and `reject` of one that it finds false.
 `malformed` are
 
   - of RSA, a length other than that of the modulus, and a number not below the
@@ -18,76 +18,145 @@ has for it, then key bytes, message and signature in hexadecimal.  The table is 
   - of Ed25519, a length other than 64 octets, and an S that isn't below the order of
     the group (RFC 8032 5.1.7); its R isn't looked at.
 
-Where openssl can't say, as of a key that it doesn't read, the table has no row.  Each
-signature that isn't accepted has a line on standard error, with its number; questions
+The table has no row by a key whose octets have no form of the algorithm, whatever the
+signature:
+
+  - of RSA, a SEQUENCE of two positive INTEGERs in DER with nothing behind, the modulus
+    odd, the exponent odd, 3 or more, and below the modulus (RFC 8017 3.1, A.1.1);
+  - of ECDSA, 04 and both coordinates of a point on the curve, or 02 or 03 and the first
+    one (SEC 1 2.3.4);
+  - of Ed25519, the 32 octets of a point (RFC 8032 5.1.3), none of order 1, 2, 4 or 8.
+
+Nor has it one past 16,384 bits of a modulus or 64 of an exponent, or below the length that
+the digest needs (RFC 8017 9.2).  The key is handed to `cryptography` in numbers; no file
+is written, and nothing else is started.
+
+Each signature that isn't accepted has a line on standard error, with its number; questions
 count from 1, and one that comes again doesn't count.  There is no table, and the status is
 1, if a line is none of a question, as `refused NAME` or one that is cut, or ends otherwise
-than by one newline, if an octet is past ASCII, if a SHA-256 in a line isn't that of the octets in it, if two questions with one row have different verdicts, and
-past 10,000 questions.  Whether a certificate may be believed isn't said: that is for who
-reads the table.
+than by one newline, if an octet is past ASCII, if a SHA-256 in a line isn't that of the
+octets in it, if two questions with one row have different verdicts, and past 10,000
+questions.  Whether a certificate may be believed isn't said: that is for who reads the
+table.
 """
 
 import re
 import sys
-from hashlib import sha256
+from collections.abc import Iterable, Iterator
+from enum import Enum
+from hashlib import blake2b, sha256
+from io import BytesIO
 from pathlib import Path
-from tempfile import TemporaryDirectory
+from typing import NamedTuple
 
 from common import command
-from common.openssl import OpensslError, openssl
-from common.signature_forms import NotJudged, has_form
-from judges.der_reader import Constructed, Primitive, read_exact, write
-from judges.verdict_rows import FIRST_LINE
+from common.signature_forms import NoForm, NotJudged, has_form, key_of
 
-# The AlgorithmIdentifier of keys, in DER (RFC 3279 2.3.1, RFC 5480 2.1.1, RFC 8410 3).
-KEYS = {
-    "rsa": "300d06092a864886f70d0101010500", "ed25519": "300506032b6570", "p521": "301006072a8648ce3d020106052b81040023",
-    "p256": "301306072a8648ce3d020106082a8648ce3d030107", "p384": "301006072a8648ce3d020106052b81040022",
-}
-NAMES = {f"rsa-{one}" for one in ("md5", "sha1", "sha224", "sha256", "sha384", "sha512")} | {"p256-sha256", "p384-sha384", "p521-sha512", "ed25519"}
-QUESTION = re.compile(rf"((?:{'|'.join(NAMES)})(?: [0-9a-f]{{64}}){{3}}) ([0-9a-f]*) ([0-9a-f]*) ([0-9a-f]*)")
+try:
+    from cryptography.exceptions import InternalError, InvalidSignature, UnsupportedAlgorithm
+    from cryptography.hazmat.primitives import hashes
+    from cryptography.hazmat.primitives.asymmetric import ec, ed25519, padding, rsa
+except ImportError:
+    print(f"{Path(sys.argv[0]).name}: Python's package cryptography isn't there: install python3-cryptography", file=sys.stderr)
+    sys.exit(command.CANT)
+
+FIRST_LINE = "picky-verdicts 2"
+DIGESTS = {one.name: one for one in (hashes.MD5(), hashes.SHA1(), hashes.SHA224(), hashes.SHA256(), hashes.SHA384(), hashes.SHA512())}
+CURVES = {"p256": ec.SECP256R1(), "p384": ec.SECP384R1(), "p521": ec.SECP521R1()}
+NAMES = {f"rsa-{digest}" for digest in DIGESTS} | {"p256-sha256", "p384-sha384", "p521-sha512", "ed25519"}
+QUESTION = re.compile(rf"((?:{'|'.join(sorted(NAMES))})(?: [0-9a-f]{{64}}){{3}}) ([0-9a-f]*) ([0-9a-f]*) ([0-9a-f]*)")
+REFUSED = re.compile(r"refused [A-Za-z0-9:]{1,80}")
 PARTS = "key", "message", "signature"
 MOST_ASKED = 10_000
-# What openssl prints of a signature that it finds false, and why it prints that of a key that it doesn't compute with.
-FOUND_FALSE, NOT_COMPUTED = "Signature Verification Failure", ("modulus too large", "bad e value")
 
 
 class NoTable(command.Refusal):
     """Why there is no table."""
 
 
-def is_accepted(kind, digest, key, message, signature):
-    """Whether openssl finds the signature true; NotJudged where it finds nothing."""
-    info = write(Constructed(0x30, (read_exact(bytes.fromhex(KEYS[kind])), Primitive(0x03, b"\0" + key))))
-    with TemporaryDirectory() as folder:
-        words = ["-digest", digest] if digest else []
-        for option, part, octets in zip(("-inkey", "-in", "-sigfile"), PARTS, (info, message, signature)):
-            Path(folder, part).write_bytes(octets)
-            words += [option, Path(folder, part)]
-        try:
-            openssl("pkeyutl", "-verify", "-pubin", "-keyform", "DER", "-rawin", *words)
-        except OpensslError as error:
-            limit = next((one for one in NOT_COMPUTED if one in error.errors), None)
-            if limit is None and FOUND_FALSE in error.out:
-                return False
-            why = limit or next(iter(error.errors.splitlines()), "it doesn't say why")
-            raise NotJudged(why.replace(f"{folder}/", "the ")) from error
+class Reason(Enum):
+    """Why a question has the verdict that it has, or none."""
+
+    ACCEPTED = "accepted"
+    FALSE = "the signature is false"
+    SIGNATURE_FORM = "the signature has no form of the algorithm"
+    KEY_FORM = "the key has no form of the algorithm"
+    UNSUPPORTED = "the key or the algorithm isn't computed with"
+
+
+class Finding(NamedTuple):
+    """What is found of a question: its number, its row and its algorithm; the verdict, None where there is no row; and why."""
+
+    place: int
+    row: str
+    name: str
+    verdict: str | None
+    reason: Reason
+    why: str
+
+    def line(self) -> str:
+        """The same in a line of printable ASCII."""
+        return f"question {self.place}: {self.why}"
+
+
+class Judged(NamedTuple):
+    """The lines of a table, and what is found of each question."""
+
+    rows: list[str]
+    findings: list[Finding]
+
+    def lacking(self) -> list[str]:
+        """A line for each question that isn't accepted."""
+        return [one.line() for one in self.findings if one.reason is not Reason.ACCEPTED]
+
+
+def verify(kind, digest, key, message, signature):
+    """InvalidSignature where `cryptography` finds the signature false."""
+    if kind == "rsa":
+        rsa.RSAPublicNumbers(key.exponent, key.modulus).public_key().verify(signature, message, padding.PKCS1v15(), DIGESTS[digest])
+    elif kind == "ed25519":
+        ed25519.Ed25519PublicKey.from_public_bytes(key).verify(signature, message)
+    else:
+        ec.EllipticCurvePublicNumbers(key.x, key.y, CURVES[kind]).public_key().verify(signature, message, ec.ECDSA(DIGESTS[digest]))
+
+
+def is_accepted(kind, digest, key, message, signature) -> bool:
+    """Whether `cryptography` finds the signature true by a key in numbers; NotJudged where it doesn't compute with it."""
+    try:
+        verify(kind, digest, key, message, signature)
+    except InvalidSignature:
+        return False
+    except (ValueError, UnsupportedAlgorithm, InternalError) as refusal:
+        raise NotJudged("the library doesn't compute with its algorithm or key") from refusal
     return True
 
 
-def verdict(name, key, message, signature):
-    """What a table says of a signature; NotJudged where openssl can't say."""
+def verdict(name: str, key: bytes, message: bytes, signature: bytes) -> str:
+    """What a table says of a signature; NotJudged where it has no row."""
     kind, _, digest = name.partition("-")
-    if not has_form(kind, key, signature):
+    numbers = key_of(kind, key)
+    if not has_form(kind, digest, numbers, signature):
         return "malformed"
-    return "accept" if is_accepted(kind, digest, key, message, signature) else "reject"
+    return "accept" if is_accepted(kind, digest, numbers, message, signature) else "reject"
 
 
-def question_in(place, line):
+def found_of(name, key, message, signature):
+    """The verdict or None, the reason, and a sentence on it."""
+    try:
+        found = verdict(name, key, message, signature)
+    except NotJudged as why:
+        return None, Reason.KEY_FORM if isinstance(why, NoForm) else Reason.UNSUPPORTED, f"it has no row: {why}"
+    return found, *{
+        "accept": (Reason.ACCEPTED, ""), "reject": (Reason.FALSE, f"not accepted as {name}"),
+        "malformed": (Reason.SIGNATURE_FORM, f"malformed as {name}"),
+    }[found]
+
+
+def question_in(place: int, line: str) -> tuple[str, str, list[bytes]]:
     """The row of the question on a line, its algorithm, and its key bytes, message and signature."""
     found = QUESTION.fullmatch(line)
     if found is None or any(len(part) % 2 for part in found.groups()[1:]):
-        raise NoTable(f"picky_ask says: {line}" if line.startswith("refused ") else f"question {place} isn't in the form of one")
+        raise NoTable(f"picky_ask says: {line}" if REFUSED.fullmatch(line) else f"question {place} isn't in the form of one")
     (name, *digests), octets = found[1].split(" "), [bytes.fromhex(part) for part in found.groups()[1:]]
     for part, digest, held in zip(PARTS, digests, octets):
         if sha256(held).hexdigest() != digest:
@@ -95,45 +164,52 @@ def question_in(place, line):
     return found[1], name, octets
 
 
-def table_of(text, judge=verdict):
-    """The lines of the table for a text of questions, and what isn't accepted."""
-    *found, rest = text.split("\n")
-    if rest:
-        raise NoTable("the last question has no newline at its end")
-    lines, verdicts, lacking = dict.fromkeys(found), {}, []
-    if len(lines) > MOST_ASKED:
-        raise NoTable(f"more than {MOST_ASKED} signatures are asked for")
-    for place, line in enumerate(lines, 1):
-        row, name, octets = question_in(place, line)
-        try:
-            found = judge(name, *octets)
-        except NotJudged as why:
-            lacking.append(f"question {place}: it can't be verified: {why}")
+def rows_of(lines: Iterable[str]) -> Judged:
+    """The table for lines without their newline, and what is found of each; NoTable where one is no question."""
+    verdicts, findings, seen = {}, [], set()
+    for line in lines:
+        # A line may be long, and 10,000 of them need not stay.
+        own = blake2b(line.encode(errors="backslashreplace")).digest()
+        if own in seen:
             continue
-        if verdicts.setdefault(row, found) != found:
-            raise NoTable(f"question {place} has the row of an earlier one and another verdict")
-        if found != "accept":
-            lacking.append(f"question {place}: {'malformed' if found == 'malformed' else 'not accepted'} as {name}")
-    return [FIRST_LINE, *(f"{found} {row}" for row, found in verdicts.items())], lacking
+        if len(seen) == MOST_ASKED:
+            raise NoTable(f"more than {MOST_ASKED} signatures are asked for")
+        seen.add(own)
+        row, name, octets = question_in(len(seen), line)
+        one = Finding(len(seen), row, name, *found_of(name, *octets))
+        findings.append(one)
+        if one.verdict is not None and verdicts.setdefault(row, one.verdict) != one.verdict:
+            raise NoTable(f"question {one.place} has the row of an earlier one and another verdict")
+    return Judged([FIRST_LINE, *(f"{found} {row}" for row, found in verdicts.items())], findings)
 
 
-def print_table(script, judge=verdict):
-    """Print the table for the questions on standard input; the status."""
-    try:
-        octets = sys.stdin.buffer.read()
-        if not octets.isascii():
+def table_of(text: str) -> tuple[list[str], list[str]]:
+    """The lines of the table for a text of questions, and a line for each that isn't accepted."""
+    judged = rows_of(lines_in(BytesIO(text.encode())))
+    return judged.rows, judged.lacking()
+
+
+def lines_in(stream: Iterable[bytes]) -> Iterator[str]:
+    """The lines of a stream, which end by one newline each."""
+    for line in stream:
+        if not line.isascii():
             raise NoTable("an octet of the questions is past ASCII")
-        rows, lacking = table_of(octets.decode("ascii"), judge)
-    except NoTable as why:
-        print(f"{script}: {command.sentence(why)}", file=sys.stderr)
-        return 1
-    print(*rows, sep="\n")
-    sys.stderr.writelines(f"{script}: {line}\n" for line in lacking)
-    return 0
+        if not line.endswith(b"\n"):
+            raise NoTable("the last question has no newline at its end")
+        yield line[:-1].decode("ascii")
 
 
 def main(arguments):
-    return command.usage(__doc__) if arguments else print_table("verdict_table.py")
+    if arguments:
+        return command.usage(__doc__)
+    try:
+        judged = rows_of(lines_in(sys.stdin.buffer))
+    except NoTable as why:
+        print(f"verdict_table.py: {command.sentence(why)}", file=sys.stderr)
+        return 1
+    print(*judged.rows, sep="\n")
+    sys.stderr.writelines(f"verdict_table.py: {line}\n" for line in judged.lacking())
+    return 0
 
 
 if __name__ == "__main__":

@@ -1,8 +1,10 @@
 """Calls of openssl (3.0 or later)."""
 
-import subprocess
-
+from common.calls import TimedOut, called
 from common.command import Refusal
+
+# Keys and parameters of the tests are made in this time too.
+SECONDS = 120
 
 
 class OpensslError(Refusal):
@@ -14,9 +16,13 @@ class OpensslError(Refusal):
         self.errors = errors
 
 
-def openssl(*words, given=b""):
-    """What openssl writes for these words.  It may not skip an attribute that it doesn't know."""
-    run = subprocess.run(["openssl", *map(str, words)], input=given, capture_output=True)
+def openssl(*words, given=None):
+    """What openssl writes for these words.  It may not skip an attribute that it doesn't know, and asks nobody for a pass phrase."""
+    try:
+        run = called(["openssl", *words], given, SECONDS)
+    except (FileNotFoundError, TimedOut) as refusal:
+        why = str(refusal) if isinstance(refusal, TimedOut) else "openssl isn't there"
+        raise OpensslError(why, errors=why) from refusal
     if run.returncode != 0 or b"Skipping" in run.stderr:
         out, errors = (stream.decode(errors="replace") for stream in (run.stdout, run.stderr))
         raise OpensslError(f"openssl {' '.join(map(str, words))}: {errors}", out, errors)

@@ -20,8 +20,9 @@ get another tag, with right lengths around them.  In the others octets are chang
 out, put in or repeated, the rest is cut off, or a tag or a length is another, one to four
 times.  Half of the signature files state their own length again after that.
 
-`openssl` isn't started: in its place a function accepts a signature by a digest of
-its octets, about every other one, and of one in eight it can't say.  With `--openssl` it is started, as for users.
+No signature is verified: in place of the arithmetic a function accepts a signature by a digest of
+its octets, about every other one, and of one in eight it can't say.  With `--openssl` signatures are
+verified as for users, time stamps by openssl.
 """
 
 import argparse
@@ -48,6 +49,7 @@ import verdict_table
 from cases.basic_world import signature_file
 from common import command, folders
 from common.openssl import OpensslError
+from common.signature_forms import NotJudged
 from gate.changed_programs import described
 from gate.programs_stand_in import StandIn
 from golden.compare_basic import at, exchanged, mutation, places
@@ -234,14 +236,12 @@ def is_well(tool, file, status, said):
     return status == 1 and said.startswith(f"{tool.__name__}.py: {named}") and said.count("\n") == 1
 
 
-def in_place_of_openssl(*words, given=b""):
-    """Finds a signature true or false, or fails, by a digest of its octets."""
-    chosen = sha256(Path(words[words.index("-sigfile") + 1]).read_bytes()).digest()[0] % 8
+def in_place_of_arithmetic(kind, digest, key, message, signature):
+    """Finds a signature true or false, or can't say, by a digest of its octets."""
+    chosen = sha256(signature).digest()[0] % 8
     if chosen == 7:
-        raise OpensslError("no key", errors="Could not read public key")
-    if chosen % 2:
-        raise OpensslError("not accepted", out="Signature Verification Failure\n")
-    return b""
+        raise NotJudged("no reason")
+    return chosen % 2 == 0
 
 
 def files(chance, tool, count):
@@ -280,12 +280,12 @@ def verifies_some(*words, given=b""):
 
 @contextmanager
 def in_place(with_openssl):
-    """The functions in place of openssl and of the programs, unless openssl is to be started."""
+    """The functions in place of the arithmetic, of openssl and of the programs, unless signatures are to be verified."""
     with patch.object(check_program, "Programs", lambda folder: StandIn()):
         if with_openssl:
             yield
         else:
-            with patch.object(verdict_table, "openssl", in_place_of_openssl), patch.object(stamps, "openssl", verifies_some):
+            with patch.object(verdict_table, "is_accepted", in_place_of_arithmetic), patch.object(stamps, "openssl", verifies_some):
                 yield
 
 
@@ -298,7 +298,7 @@ def main(arguments):
     parser = argparse.ArgumentParser(description="Damaged files for the scripts of users.")
     parser.add_argument("--seed", type=int, default=1)
     parser.add_argument("--count", type=int, default=20_000)
-    parser.add_argument("--openssl", action="store_true", help="start openssl")
+    parser.add_argument("--openssl", action="store_true", help="verify signatures and stamps")
     tools = {tool.__name__: tool for tool in (verdict_table, order_bag, signed_program, check_program)}
     parser.add_argument("tool", choices=tools)
     words = parser.parse_args(arguments)

@@ -1,4 +1,4 @@
-"""Which signatures a check of a file may ask for, read in Python, and the tables that openssl gives for them.
+"""Which signatures a check of a file may ask for, read in Python, and the tables that `cryptography` gives for them.
 
 This is a reference for the tests, for `bench/` and for the golden output; users have
 `picky_ask` and `verdict_table.py`.  A file with a WIN_CERTIFICATE asks for
@@ -16,7 +16,7 @@ for the signature of one by the key of the next.  A pool, in any order, asks for
 one by the key of one whose subject is its issuer.
 
 The digest algorithm of a signature is the one that the signature itself names.  A table
-of version 1 has the lines of signatures that openssl verifies, without a verdict.
+of version 1 has the lines of signatures that `cryptography` verifies, without a verdict.
 """
 
 from hashlib import sha256
@@ -117,7 +117,7 @@ class Asked(NamedTuple):
         return name if name in NAMES else None
 
     def parts(self):
-        """What the answer of openssl rests on."""
+        """What the verdict rests on."""
         return write(self.key.key_info), self.algorithm, self.digest, self.message, self.signature
 
     def line(self):
@@ -125,7 +125,7 @@ class Asked(NamedTuple):
         return " ".join([self.name(), *(sha256(part).hexdigest() for part in parts)])
 
     def verdict(self):
-        """What a table says of the signature; NotJudged where openssl can't say."""
+        """What a table says of the signature; NotJudged where it has no row."""
         return verdict_table.verdict(self.name(), self.key.key_octets(), self.message, self.signature)
 
 
@@ -247,12 +247,12 @@ def asked_of_chain(certificates):
 
 
 def table(octets, version=1):
-    """The lines of the table for a signature file, and what openssl doesn't verify."""
+    """The lines of the table for a signature file, and what isn't accepted."""
     return table_of(asked_of(octets), version)
 
 
 def chain_table(files, version=1):
-    """The lines of the table for certificates, by their octets, and what openssl doesn't verify."""
+    """The lines of the table for certificates, by their octets, and what isn't accepted."""
     return table_of(asked_of_chain(map(certificate_in, files)), version)
 
 
@@ -262,7 +262,7 @@ def pool_table(files, version=1):
 
 
 def table_of(all_asked, version=1):
-    """The lines for signatures that are asked for, and what openssl doesn't verify."""
+    """The lines for signatures that are asked for, and what isn't accepted."""
     verdicts, lacking, seen = {}, [], set()
     for asked in all_asked:
         if asked.parts() in seen:
@@ -276,13 +276,11 @@ def table_of(all_asked, version=1):
         try:
             verdict, line = asked.verdict(), asked.line()
         except NotJudged as why:
-            lacking.append(f"{asked.what}: openssl can't verify it: {why}")
+            lacking.append(f"{asked.what}: it has no row: {why}")
             continue
         if verdict != "accept":
             lacking.append(f"{asked.what}: {'malformed' if verdict == 'malformed' else 'not accepted'} as {asked.name()}")
-        # A key may have two encodings, of which openssl reads one.
-        if verdicts.get(line) != "accept":
-            verdicts[line] = verdict
+        verdicts[line] = verdict
     if version == 1:
         return [line for line, verdict in verdicts.items() if verdict == "accept"], lacking
     return [FIRST_LINE, *(f"{verdict} {line}" for line, verdict in verdicts.items())], lacking

@@ -27,13 +27,13 @@ class DamagedFilesTest(unittest.TestCase):
         for tool, bases in WHOLE.items():
             made = [damaged_files.wrapped(kind, octets) for kind, octets in bases()]
             with patch.object(damaged_files, "files", lambda chance, *_: [(octets, octets if tool is verdict_table else None) for octets in made]):
-                with patch.object(verdict_table, "openssl", damaged_files.in_place_of_openssl):
+                with patch.object(verdict_table, "is_accepted", damaged_files.in_place_of_arithmetic):
                     statuses, wrong, _ = damaged_files.check(tool, 1, len(made))
             self.assertEqual((wrong, {status for status, _ in statuses}), ([], {0}), tool.__name__)
 
     def test_some(self):
         for tool in TOOLS:
-            with patch.object(verdict_table, "openssl", damaged_files.in_place_of_openssl):
+            with patch.object(verdict_table, "is_accepted", damaged_files.in_place_of_arithmetic):
                 statuses, wrong, _ = damaged_files.check(tool, 7, 40)
             self.assertEqual((wrong, {status for status, _ in statuses}), ([], {0, 1}), tool.__name__)
 
