@@ -13,7 +13,8 @@ from tempfile import TemporaryDirectory
 from time import strptime
 from typing import NamedTuple
 
-from common.openssl import OpensslError, openssl
+from common.command import Refusal
+from common.openssl import openssl
 from program_check import text
 from program_check.signature import COUNTER, TOKEN
 
@@ -57,7 +58,7 @@ def verified(stamp, signature_octets, roots):
         (folder / "signature").write_bytes(signature_octets)
         try:
             CHECKS[stamp.kind](folder, moment)
-        except OpensslError as refusal:
+        except Refusal as refusal:
             return Verified(stamp, False, reason(refusal, place))
     return Verified(stamp, True)
 
@@ -82,9 +83,10 @@ CHECKS = {TOKEN: check_token, COUNTER: check_countersignature}
 
 def reason(refusal, place):
     """The reasons in what openssl wrote: its lines of errors have nine parts, of which the sixth is the reason."""
-    lines = [line for line in (refusal.errors + "\n" + refusal.out).splitlines() if line.strip() and place not in line]
+    said = f"{getattr(refusal, 'errors', '')}\n{getattr(refusal, 'out', '')}"
+    lines = [line for line in said.splitlines() if line.strip() and place not in line]
     named = [named for line in lines for named in reasons_in(line)]
-    return text.clean("openssl: " + (", ".join(dict.fromkeys(named)) or next(iter(lines), "it doesn't say why")))
+    return text.clean("openssl: " + (", ".join(dict.fromkeys(named)) or next(iter(lines), str(refusal) if not said.strip() else "it doesn't say why")))
 
 
 def reasons_in(line):

@@ -25,6 +25,7 @@ import check_program
 import signed_program
 import verdict_table
 from cases import basic_world
+from common import der
 from common.openssl import openssl
 from common.signature_forms import NotJudged
 from gate.changed_programs import with_certificates, with_entry, with_signer
@@ -33,8 +34,7 @@ from gate.programs_stand_in import StandIn
 from interop import signed_images, signed_programs, world_signatures
 from interop.signature_making import portable_executable
 from judges import question_judge
-from judges.der_reader import Constructed, Primitive, write
-from judges.value_reader import Shape
+from judges.der_reader import Constructed, Primitive, read_exact, write
 from program_check import anchors, asking, kinds, programs, reasons, stamps, text
 from program_check.certificate import Certificate
 from program_check.programs import Answer, Disagreement, NotChecked, Programs, Tried
@@ -43,28 +43,6 @@ from program_check.roots import Root, Roots
 from program_check.signature import Signature
 
 PE_LINE, ANCHOR_LINE, CHAIN_LINE = "accepted signer=0 path= excuse=none", "anchored pool= anchor=0", "accepted parents=0"
-
-
-# What openssl says of a signature stays: each is verified once in all these tests.
-KNOWN = {}
-VERIFIED = verdict_table.is_accepted
-
-
-def remembered(*asked):
-    """As `is_accepted`, which starts openssl, unless something else is in its place."""
-    if verdict_table.openssl is not openssl:
-        return VERIFIED(*asked)
-    if asked not in KNOWN:
-        KNOWN[asked] = VERIFIED(*asked)
-    return KNOWN[asked]
-
-
-def setUpModule():
-    verdict_table.is_accepted = remembered
-
-
-def tearDownModule():
-    verdict_table.is_accepted = VERIFIED
 
 
 @unittest.skipUnless(which("openssl"), "openssl isn't there")
@@ -320,7 +298,7 @@ class DisagreementTest(unittest.TestCase):
     def test_openssl_finds_good_signatures_false(self):
         entry = Signature(signed_program.signature(STORED["three"].octets))
         link = "InvalidCertificate:Signature"
-        for message, reason in (None, "SignatureError"), (entry.certificates[2].parts.tbs, link), (entry.certificates[1].parts.tbs, link):
+        for message, reason in (None, "SignatureError"), (entry.certificates[2].tbs, link), (entry.certificates[1].tbs, link):
             with patch.object(verdict_table, "is_accepted", lambda *asked: message is not None and asked[3] != message):
                 report = checked(STORED["three"].octets)
             self.assert_refused(report, reason)
@@ -404,7 +382,8 @@ class StampTest(unittest.TestCase):
 
     def test_a_stamp_of_another_signature(self):
         """The token of one program in the signature of another one."""
-        token = Signature(signed_program.signature(STORED["stamped"].octets)).signer.unsigned
+        unsigned = Signature(signed_program.signature(STORED["stamped"].octets)).signer.fields.unsigned
+        token = read_exact(unsigned.encoding).kids
 
         def stamped(signer):
             kids = [kid for kid in signer.kids if kid.tag != 0xA1]
@@ -427,12 +406,11 @@ class StampTest(unittest.TestCase):
     def test_a_counter_signature(self):
         octets = next(octets for known, _, octets in world_signatures.stored() if known == "program, a counter-signature")
         signature = Signature(basic_world.signature_file(octets))
-        one, = signature.stamps()
+        (one,), _ = signature.stamps()
         top = next(each.der for each in signature.certificates if each.is_self_issued())
         found = stamps.verified(one, signature.signer.octets, [top])
         self.assertEqual((one.kind, bool(one.by)), ("counter-signature (PKCS #9)", True))
         self.assertFalse(stamps.verified(one, signature.signer.octets[:-1] + b"\0", [top]).good)
-        self.assertIn(found.good, (True, False))
 
     def test_used(self):
         found = [stamps.Verified(stamp(time), good) for time, good in (("2020-01-01T00:00:00", False), ("2024-01-01T00:00:00", True), ("2022-01-01T00:00:00", True))]
@@ -473,23 +451,14 @@ class PrintingTest(unittest.TestCase):
             for part in (found["signer"]["sha256"], found["digest"]["value"], found["root"]["sha256"], found["sentence"], *(one["line"] for one in found["answers"])):
                 self.assertIn(part, text_of)
 
-    def test_words(self):
-        for words in ([], ["--json"], ["a", "b"], ["a", "--at"], ["a", "--at", "tomorrow"], ["a", "--at", "2023-02-29"], ["a", "--at", "2023-06-15T24:00:00"], ["a", "--at", "2023-06-15", "--at", "2023-06-15"],
-                      ["a", "--root"], ["a", "--root", "--json"], ["--rot", "a"], ["a", "--digest", "0"], ["a", "--digest", "xy"]):
-            status, out, errors = self.printed(*words)
-            self.assertEqual((status, out), (2, ""), words)
-            self.assertIn("usage:", errors)
-        found = check_program.Words.of(["p", "--root", "a", "b", "--json", "--stamp-root", "c"])
-        self.assertEqual((found.program, found.root, found.json, found.stamp_root), ("p", ["a", "b"], True, ["c"]))
-        self.assertTrue(all(map(check_program.is_date, ("2024-02-29", "0000-02-29", "9999-12-31T23:59:59"))))
-        found = check_program.Words.of(["--root", "a", "p"])
-        self.assertEqual((found.program, found.root), ("p", ["a"]))
-
     def test_files_that_cant_be_read(self):
         with TemporaryDirectory() as folder:
             program, root = self.files(folder)
             bad = Path(folder, "bad.pem")
-            for octets, why in (b"no root", "isn't a certificate"), (b"-----BEGIN CERTIFICATE-----\nxx", "isn't base64"):
+            for octets, why in (
+                (b"no root", "isn't a certificate"), (b"-----BEGIN CERTIFICATE-----\nxx", "has no END line"),
+                (b"-----BEGIN CERTIFICATE-----\nx$x\n-----END CERTIFICATE-----\n", "isn't base64"), (b"0" + root.read_bytes(), "isn't a certificate"),
+            ):
                 bad.write_bytes(octets)
                 status, out, errors = self.printed(program, "--root", bad)
                 self.assertEqual((status, out, errors.count("\n")), (4, "", 1))
@@ -547,7 +516,7 @@ class PrintingTest(unittest.TestCase):
             ended = "echo 'run=ended status=0 runners=1 proved=no' >&2\n"
             calls = [("picky_pe", [file, "x"]), ("picky_anchor", ["3", file])]
             with patch.dict(os.environ, {"PATH": folder + os.pathsep + os.environ["PATH"]}):
-                rt.write_text(f"#!/bin/sh\ncp \"${{5#*=}}\" {rows}\nprintf '0 accepted\\n2 \\n'\n{ended}")
+                rt.write_text(f"#!/bin/sh\ncp \"${{7#*=}}\" {rows}\nprintf '0 accepted\\n2 \\n'\n{ended}")
                 rt.chmod(0o755)
                 programs = Tried()
                 programs.expect(calls)
@@ -555,12 +524,12 @@ class PrintingTest(unittest.TestCase):
                 rt.write_text("#!/bin/sh\nexit 1\n")
                 self.assertEqual([programs.run(*call, "")[2:] for call in calls], [(0, "accepted\n"), (2, "")])
                 asked = [("picky_ask", [file]), ("picky_ask", ["--chain", file, file]), ("picky_ask", [])]
-                rt.write_text(f"#!/bin/sh\ncp \"${{5#*=}}\" {rows}\nprintf '0 rsa-md5 1\\nrsa-md5 2\\n0 \\n1 refused NotMz\\n'\n{ended}")
+                rt.write_text(f"#!/bin/sh\ncp \"${{7#*=}}\" {rows}\nprintf '0 rsa-md5 1\\nrsa-md5 2\\n0 \\n1 refused NotMz\\n'\n{ended}")
                 programs.expect(asked)
                 self.assertEqual(rows.read_text().splitlines()[0], "picky_ask 65536 - f0=0102 f0")
                 self.assertEqual([programs.run(*call, "")[2:] for call in asked], [(0, "rsa-md5 1\nrsa-md5 2\n"), (0, ""), (1, "refused NotMz\n")])
                 file.write_bytes(bytes(10_000))
-                rt.write_text(f"#!/bin/sh\ncp \"${{5#*=}}\" {rows}\nprintf '0 \\n'\n{ended}")
+                rt.write_text(f"#!/bin/sh\ncp \"${{7#*=}}\" {rows}\nprintf '0 \\n'\n{ended}")
                 programs.expect(asked[:1])
                 self.assertEqual(rows.read_text().split()[1], "100000")
                 rt.write_text(f"#!/bin/sh\necho alone\n{ended}")
@@ -623,12 +592,12 @@ class TextTest(unittest.TestCase):
             (0x18, b"20230601000000.\x1b[8mZ"), (0x18, b"2023060100000\xb2Z"), (0x18, b"+0230601000000Z"), (0x18, b"2_230601000000Z"),
             (0x04, b"20230601000000Z"),
         ):
-            with self.assertRaises(Shape, msg=octets):
-                text.moment_of(Primitive(tag, octets))
+            with self.assertRaises(der.NotRead, msg=octets):
+                text.moment_of(der.whole(der.wrapped(tag, octets)))
 
     def test_moments(self):
-        self.assertEqual(text.moment_of(Primitive(0x17, b"500101000000Z")), "1950-01-01T00:00:00")
-        self.assertEqual(text.moment_of(Primitive(0x18, b"20230601123456.789Z")), "2023-06-01T12:34:56")
+        self.assertEqual(text.moment_of(der.whole(der.wrapped(0x17, b"500101000000Z"))), "1950-01-01T00:00:00")
+        self.assertEqual(text.moment_of(der.whole(der.wrapped(0x18, b"20230601123456.789Z"))), "2023-06-01T12:34:56")
 
 
 def are_built():
@@ -671,12 +640,18 @@ class QuestionsTest(unittest.TestCase):
         alone = question_judge.of_file(entry)[1].splitlines()
         with TemporaryDirectory() as folder:
             files = anchors.Files(Path(folder))
-            self.assertEqual(asking.questions(StandIn(), files, entry), (alone, []))
-            more, unread = asking.questions(StandIn(), files, entry, signature.certificates[1:], [Certificate(signed_programs.root())])
-            self.assertEqual((more[:len(alone)], unread), (alone, []))
-            self.assertEqual(bytes.fromhex(more[-1].split(" ")[5]), signature.certificates[1].parts.tbs)
-            none, unread = asking.questions(StandIn(), files, b"none")
-            self.assertEqual((none, unread), ([], ["picky_ask reads no signature: refused WrongLength"]))
+
+            def asked(*about):
+                asking_of = asking.Asking(StandIn(), files, *about)
+                return list(asking_of.lines()), asking_of
+
+            lines, of_file = asked(entry)
+            self.assertEqual((lines, of_file.lacking), (alone, []))
+            lines, with_root = asked(entry, signature.certificates[1:], [Certificate(signed_programs.root())])
+            self.assertEqual((lines[:len(alone)], with_root.lacking), (alone, []))
+            self.assertEqual(bytes.fromhex(lines[-1].split(" ")[5]), signature.certificates[1].tbs)
+            lines, of_none = asked(b"none")
+            self.assertEqual((lines, of_none.lacking), ([], ["picky_ask reads no signature: refused WrongLength"]))
 
 
 class DocumentedTest(unittest.TestCase):
@@ -704,7 +679,7 @@ class DocumentedTest(unittest.TestCase):
     def test_options(self):
         """The options are in the page of the manual, in the completion and in the docstring."""
         top = Path(__file__).resolve().parents[2]
-        known = {*check_program.LISTS, *check_program.VALUES, *check_program.FLAGS}
+        known = set(check_program.OPTIONS)
         page, completion = (top / "man/check_program.1").read_text("ascii"), (top / "tools/completion/picky.bash").read_text("ascii")
         self.assertEqual({"--" + word for word in re.findall(r"^\.It Fl -(\S+)", page, re.MULTILINE)}, known)
         for option in known:
