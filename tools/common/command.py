@@ -179,4 +179,7 @@ def ended(main, doc: str, script: str, words: list, cant_write: int) -> int:
     except (Refusal, OSError, CalledProcessError, UnicodeDecodeError) as error:
         print(f"{script}: {sentence(error)}", file=sys.stderr)
         status = CANT
+    except MemoryError:
+        print(f"{script}: there isn't enough memory", file=sys.stderr)
+        status = CANT
     return status

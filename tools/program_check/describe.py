@@ -23,7 +23,7 @@ def describe(report, subject, alone):
         report.notes.append(notes.CERTIFICATES.format(len(signature.certificates), MOST_CERTIFICATES))
     report.description = dict(zip(("name", "link"), signature.description()))
     report.stated_time = signature.stated_time()
-    report.notes += notes.weaknesses(stated[0] if stated else None, signature, certificate)
+    report.notes += notes.weaknesses(stated[0] if stated else None, certificate)
     report.notes += [notes.UNSIGNED.format(text.counted(many, "octet"), where) for many, where in unsigned(subject, alone)]
     describe_others(report, subject, alone)
 
