@@ -341,7 +341,7 @@ class Check:
         if image is None or stated is None or stated[0] not in DIGESTS.values() or not image.has_gap():
             return None
         by_sections = digest_by_sections(subject.octets, image, stated[0])
-        return reasons.with_a_gap(image) if by_sections == stated[1] else None
+        return reasons.with_a_gap(image) if by_sections == stated[1].hex() else None
 
     def hint(self, subject, name, then):
         """What to do next; about a certificate that has expired it depends on the stamps."""
