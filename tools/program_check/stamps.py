@@ -90,7 +90,9 @@ def reason(refusal, place):
     said = f"{getattr(refusal, 'errors', '')}\n{getattr(refusal, 'out', '')}"
     lines = [line for line in said.splitlines() if line.strip() and place not in line]
     named = [named for line in lines for named in reasons_in(line)]
-    whole = str(refusal) if not said.strip() else next(iter(lines), "it doesn't say why")
+    if not said.strip():
+        return text.visible(str(refusal))
+    whole = next(iter(lines), "it doesn't say why")
     return f"openssl: {text.clean(', '.join(dict.fromkeys(named)) or whole)}"
 
 
