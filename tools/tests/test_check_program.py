@@ -511,6 +511,33 @@ class DocumentedTest(unittest.TestCase):
             done = subprocess.run(["mandoc", "-Tlint", "-W", "warning", page], capture_output=True, text=True)
             self.assertEqual((done.returncode, done.stdout), (0, ""), page.name)
 
+    def recipe(self, status):
+        """What the page's recipe leaves of a list of publishers where the check of the known program ends with a status."""
+        page = (Path(__file__).resolve().parents[2] / "docs/SCRIPTING.md").read_text("utf-8")
+        first = re.search(r"^found=.*known\.exe.*\n.*>> publishers\.txt$", page, re.MULTILINE)[0]
+        stubs = f"python3() {{ echo '{{}}'; return {status}; }}; jq() {{ cat > /dev/null; echo key; }}"
+        with TemporaryDirectory() as folder:
+            subprocess.run(["bash", "-c", f"{stubs}\n{first}"], cwd=folder, capture_output=True)
+            file = Path(folder, "publishers.txt")
+            return file.read_text() if file.exists() else ""
+
+    def test_publishers(self):
+        """The key of a program is listed where it was accepted, and nowhere else."""
+        self.assertEqual(self.recipe(0), "key\n")
+        for status in range(1, 8):
+            self.assertEqual(self.recipe(status), "", status)
+
+    def test_completion(self):
+        """As the script is called, by itself or by Python, the options are offered, and behind -- none are."""
+        script = Path(__file__).resolve().parents[1] / "completion/picky.bash"
+        for function, words, offered in (
+            ("_check_program", ["check_program.py", "--"], True), ("_picky_python", ["python3", "tools/check_program.py", "--"], True),
+            ("_picky_python", ["python3", "other.py", "--"], False), ("_check_program", ["check_program.py", "--", "--"], False),
+        ):
+            called = f"source {script}; compopt() {{ :; }}; COMP_WORDS=({' '.join(words)}); COMP_CWORD={len(words) - 1}; {function} {words[0]} {words[-1]} {words[-2]}; echo ${{COMPREPLY[@]}}"
+            found = subprocess.run(["bash", "-c", called], capture_output=True, text=True, cwd="/").stdout.split()
+            self.assertEqual(set(check_program.OPTIONS) <= set(found), offered, words)
+
     def test_programs(self):
         self.assertEqual(set(programs.ACCEPTED), {"picky", "picky_pe", "picky_ask", "picky_anchor"})
 
