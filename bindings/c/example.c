@@ -1,4 +1,5 @@
-/* example SIG TABLE HASH DATE: checks a signature as `picky check` does. */
+/* example SIG TABLE HASH DATE LINE: checks a signature as `picky check` does. The status is 0 only where
+ * the answer is LINE: an accepted signature with an empty `path=` is vouched for by nobody. */
 #include "picky.h"
 #include <stdio.h>
 #include <stdlib.h>
@@ -19,8 +20,8 @@ static uint8_t *octets_of(const char *path, size_t *length) {
 }
 
 int main(int count, char **words) {
-    if (count != 5) {
-        fprintf(stderr, "usage: example SIG TABLE HASH DATE\n");
+    if (count != 6) {
+        fprintf(stderr, "usage: example SIG TABLE HASH DATE LINE\n");
         return PICKY_USAGE;
     }
     size_t signature_length, table_length, written = 0;
@@ -34,5 +35,9 @@ int main(int count, char **words) {
     fwrite(line, 1, written, stdout);
     free(signature);
     free(table);
+    if (status == PICKY_ACCEPTED && (written != strlen(words[5]) + 1 || memcmp(line, words[5], written - 1))) {
+        fprintf(stderr, "accepted, but not as expected\n");
+        return PICKY_REFUSED;
+    }
     return status;
 }

@@ -1,8 +1,14 @@
 /* picky: checks of Authenticode signatures, in the caller's process.
  *
  * A call returns an exit status of the command line program, and copies the line that the program
- * prints to the start of a buffer. That an accepted signature is vouched for, over exactly these
- * octets, is proved of the library; that this header declares what was proved isn't.
+ * prints to the start of a buffer. That the status is 0 only where the table vouches for the signature,
+ * over exactly these octets, is proved of the library; that this header declares what was proved isn't.
+ *
+ * Status 0 isn't enough to install a program. An accepted signature with an empty `path=` is
+ * vouched for by nobody: anyone can make its certificate. A path is worth what its last certificate
+ * is, since no root is checked. So compare the whole line with the one that you expect, and pin the
+ * signer's key (a table without rows of other keys) or find a path to a root that you trust (as the
+ * last certificate of picky_chain_bytes): docs/MANUAL.md, "Who signed".
  *
  * What a caller must uphold:
  *   - each pointer is aligned for its type and points to as many octets, `lengths` to as many numbers, as
@@ -14,8 +20,11 @@
  *   - a handle is PICKY_NO_TABLE or what a call left in it, is copied to no second handle that is
  *     used, and is used by one call at a time; from thread to thread it goes by a lock, or by the start
  *     or the join of one;
- *   - malloc, realloc and free, which the library calls, are of one allocator, and align a block to each
- *     power of two up to 16 that divides its size;
+ *   - malloc, realloc and free, which the library calls, are of one allocator, align a block to each
+ *     power of two up to 16 that divides its size, and may be called by several threads where calls are;
+ *   - a call ends by its return alone: no longjmp and no exception out of malloc or a signal handler,
+ *     and no cancellation of its thread meanwhile;
+ *   - the stack has room: 48 KiB is the most that was measured of the programs, and none is proved;
  *   - no call from a signal handler, and none in the child of a fork of a process with threads.
  * A length counts octets, `count` files. But for handles nothing is kept between calls, so threads may
  * call at once. A call takes as many octets of memory as its buffer has, and more for what it reads, so
@@ -33,8 +42,8 @@ extern "C" {
 
 /* What a call returns. */
 enum picky_status {
-    PICKY_ACCEPTED = 0,      /* the line says which certificates vouch for the signature; of
-                              * picky_ask_bytes a line for each question, or none */
+    PICKY_ACCEPTED = 0,      /* the line says which certificates vouch for the signer's, none where
+                              * `path=` is empty; of picky_ask_bytes a line for each question, or none */
     PICKY_REFUSED = 1,       /* the line names the cause */
     PICKY_USAGE = 2,         /* the words request nothing; no line, as with all that follow */
     PICKY_BAD_TABLE = 3,     /* the table has a bad line */
@@ -95,7 +104,7 @@ typedef struct picky_table { void *inside; } picky_table;
 /* A handle without a table, to begin with: picky_table table = PICKY_NO_TABLE; */
 #define PICKY_NO_TABLE { 0 }
 
-/* Parses a verdict table. Returns PICKY_ACCEPTED, and the handle has this table, in the place of what it
+/* Parses a verdict table, and copies its text, which may be freed then. Returns PICKY_ACCEPTED, and the handle has this table, in the place of what it
  * had, which is freed; or PICKY_BAD_TABLE or PICKY_OUT_OF_MEMORY, and it keeps what it had. The table of a text of
  * more than PICKY_LONGEST octets is parsed too; to calls with it the file TABLE is too long. */
 uint8_t picky_table_parse(const uint8_t *text, size_t text_length, picky_table *table);

@@ -1,7 +1,17 @@
-// The calls of picky.h over strings: an answer is a value, a table frees itself. picky.h says what the
-// words are, and what each status means.
+// The calls of picky.h over strings, in C++17: an answer is a value, a table frees itself. picky.h says what
+// the words are, and what each status means.
+//
+// Status 0 isn't enough to install a program. An accepted signature with an empty `path=` is vouched for by
+// nobody: anyone can make its certificate. A path is worth what its last certificate is, since no root is
+// checked. So compare the whole line with the one that you expect, and pin the signer's key (a table
+// without rows of other keys) or find a path to a root that you trust (as the last certificate of
+// picky::chain): docs/MANUAL.md, "Who signed". An answer has no truth value.
 #ifndef PICKY_HPP
 #define PICKY_HPP
+
+#if __cplusplus < 201703L
+#error "picky.hpp is written in C++17"
+#endif
 
 #include "picky.h"
 #include <string>
@@ -11,10 +21,9 @@
 
 namespace picky {
 
-struct answer {
+struct [[nodiscard]] answer {
     picky_status status;
     std::string line; // without the newline at its end; empty where there is none
-    explicit operator bool() const { return status == PICKY_ACCEPTED; }
 };
 
 // A word with a newline would be two, so it has the status PICKY_USAGE.
@@ -93,7 +102,7 @@ public:
     ~Table() { clear(); }
 
     // PICKY_ACCEPTED; or PICKY_BAD_TABLE or PICKY_OUT_OF_MEMORY, and the table is as it was.
-    picky_status parse(std::string_view text) {
+    [[nodiscard]] picky_status parse(std::string_view text) {
         return static_cast<picky_status>(picky_table_parse(detail::octets(text), text.size(), &handle_));
     }
 

@@ -1,5 +1,11 @@
 // Package picky checks Authenticode signatures over octets in memory, by the static library
 // libpicky_door.a. CGO_CFLAGS and CGO_LDFLAGS say where picky.h and the libraries are.
+//
+// Status 0 isn't enough to install a program. An accepted signature with an empty path= is vouched for by
+// nobody: anyone can make its certificate. A path is worth what its last certificate is, since no root is
+// checked. So compare the whole line with the one that you expect, and pin the signer's key (a table without
+// rows of other keys) or find a path to a root that you trust (as the last certificate of Chain):
+// docs/MANUAL.md, "Who signed".
 package picky
 
 /*

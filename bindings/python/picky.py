@@ -3,6 +3,12 @@
     >>> picky = Picky("libpicky_door.so")
     >>> picky.check(["check", "SIG", "TABLE", digest, "2023-06-15"], signature, table)
     Answer(status=0, line='accepted signer=0 path=1,2 excuse=none')
+
+Status 0 isn't enough to install a program. An accepted signature with an empty `path=` is vouched for by
+nobody: anyone can make its certificate. A path is worth what its last certificate is, since no root is
+checked. So compare the whole line with the one that you expect, and pin the signer's key (a table without
+rows of other keys) or find a path to a root that you trust (as the last certificate of `chain`):
+docs/MANUAL.md, "Who signed". An answer has no truth value.
 """
 
 import ctypes
@@ -20,7 +26,7 @@ class Answer(NamedTuple):
     line: str
 
     def __bool__(self):
-        return self.status == ACCEPTED
+        raise TypeError("an answer has no truth value: compare its line with the one that you expect")
 
 
 class _Handle(ctypes.Structure):

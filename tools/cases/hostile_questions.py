@@ -7,8 +7,10 @@ choices that those leave.  Keys and signatures are computed here, in integers.
 
 import random
 from base64 import encodebytes
+from functools import lru_cache
 from hashlib import new as digest_by
 from hashlib import sha256
+from math import gcd, prod
 from typing import NamedTuple
 
 from cases import curve_points
@@ -109,14 +111,19 @@ DIGEST_INFOS = {
 }
 
 
+# Most numbers that are no prime have a factor with this one.
+SMALL_FACTORS = prod(range(3, 2000, 2))
+
+
 def prime_of(chance, bits, exponent):
     """A number of so many bits, the two highest set, that Fermat's test takes for a prime, for this exponent."""
     while True:
         one = chance.getrandbits(bits) | 3 << (bits - 2) | 1
-        if (one - 1) % exponent and pow(2, one - 1, one) == 1:
+        if (one - 1) % exponent and gcd(one, SMALL_FACTORS) == 1 and pow(2, one - 1, one) == 1:
             return one
 
 
+@lru_cache(maxsize=None)
 class Rsa:
     """A key of RSA whose modulus has so many bits; the same one each time."""
 
@@ -455,11 +462,16 @@ def ed25519_keys():
     yield edwards_question("the first octets of another point", little(next(each for each in range(y + 1, y + 100) if curve_points.edwards_x(each))), KNOWN_SIGNATURE, "reject")
 
 
-def questions():
-    """All of them."""
+def parts():
     for part in rsa_signatures, rsa_lengths, rsa_numbers, rsa_encodings, ed25519_signatures, ed25519_randoms, ed25519_keys:
         yield from part()
     for kind in DIGESTS:
         one = Ecdsa(kind)
         for part in ecdsa_signatures, ecdsa_edges, ecdsa_keys:
             yield from part(one)
+
+
+@lru_cache(maxsize=None)
+def questions():
+    """All of them."""
+    return tuple(parts())

@@ -235,12 +235,20 @@ def installed(library, folder):
     built("cc", "-std=c11", *STRICT, BINDINGS / "c/example.c", *words, "-o", folder / "example")
 
 
-def of_example(folder):
-    """What the example prints of the stored signature."""
+def of_example(folder, is_stand_in):
+    """What is wrong of the example's answers: 0 where the line is the one that is expected, and 1 where that is another."""
     data = folders.CRATES / "picky/data"
-    done = subprocess.run([folder / "example", data / "signed.bin", data / "signed_table.txt", HASH, DATE], capture_output=True, text=True)
-    if (done.returncode, done.stdout) != (0, ACCEPTED):
-        yield f"the example: {done.returncode} {done.stdout!r}"
+    files, printed = (data / "signed.bin", data / "signed_table.txt"), ACCEPTED
+    if is_stand_in:
+        files = folder / "signature", folder / "table"
+        for path, octets in zip(files, (b"abc", b"0")):
+            path.write_bytes(octets)
+        printed = f"check 3 1 0 check|SIG|TABLE|{HASH}|{DATE}\n"
+    whole = printed.rstrip("\n")
+    for line in (whole, "accepted signer=0 path= excuse=none", whole[:-1], f"{whole}\n", ""):
+        done = subprocess.run([folder / "example", *files, HASH, DATE, line], capture_output=True, text=True)
+        if (done.returncode, done.stdout) != (0 if line == whole else 1, printed):
+            yield f"the example, of which {line!r} is expected: {done.returncode} {done.stdout!r}"
 
 
 def compared(library, cases, folder, is_stand_in):
@@ -280,8 +288,7 @@ def compared(library, cases, folder, is_stand_in):
                     yield f"{name}: {case.kind} {' '.join(case.words)[:80]}: {found!r}, not {expected!r}"
     yield from rooms(first, cases[0], folder)
     yield from rooms(first, cases[0], folder, STEPS="pc")
-    if not is_stand_in:
-        yield from of_example(folder)
+    yield from of_example(folder, is_stand_in)
     refused = [answer([folder / "refused"], case, folder) for case in cases[:WITH_HANDLES]]
     yield from (f"each request refused: {printed}" for printed in refused if not re.fullmatch(r"\d+ \d+ \d+\n", printed))
     counts = [tuple(map(int, printed.split())) for printed in refused if printed[:1].isdigit()]

@@ -10,8 +10,13 @@ import re
 import sys
 from pathlib import Path
 
-# Structures that contain themselves, so that their modules import one another: the crate, and the modules.
-RECURSIVE: dict[tuple[str, frozenset[str]], str] = {}
+# What is defined by itself, so that its modules import one another: the crate and the modules, and why.
+RECURSIVE: dict[tuple[str, frozenset[str]], str] = {
+    ("der_core", frozenset({"kids", "leaves", "structure", "tagging", "testing"})): "elements in elements",
+    ("cms_types", frozenset({"signed_data", "signed_data::parts"})): "a value, and the parts that it is read and copied by",
+    ("cms_types", frozenset({"signer_info", "signer_info::parts"})): "a value, and the parts that it is read and copied by",
+    ("x509_types", frozenset({f"certificate::tbs_{one}" for one in ("certificate", "fields", "parts")})): "a value, and the parts that it is read and copied by",
+}
 
 USE = re.compile(r"^(?:pub(?:\([a-z]+\))? )?use crate::([^;]+);", re.M)
 
@@ -71,22 +76,22 @@ def circles_of(imports: dict[str, set[str]]) -> list[frozenset[str]]:
 
 def main(words: list[str]) -> int:
     if len(words) != 1:
-        print(f"usage: import_circles.py CRATES", file=sys.stderr)
+        print("usage: import_circles.py CRATES", file=sys.stderr)
         return 2
     crates = sorted(path.parent for path in Path(words[0]).glob("*/src"))
     if not crates:
         print(f"{words[0]} has no crates", file=sys.stderr)
         return 2
-    count, circles = 0, 0
-    for crate in crates:
-        modules = modules_of(crate)
-        count += len(modules)
-        for circle in circles_of(imports_of(modules)):
-            if (crate.name, circle) not in RECURSIVE:
-                circles += 1
-                print(f"{crate.name}: {', '.join(sorted(circle))}")
-    print(f"modules that import one another in a circle: {circles}, of {count} modules in {len(crates)} crates")
-    return 1 if circles else 0
+    sources = {crate.name: modules_of(crate) for crate in crates}
+    found = {(name, circle) for name, modules in sources.items() for circle in circles_of(imports_of(modules))}
+    others = sorted((name, ", ".join(sorted(circle))) for name, circle in found - RECURSIVE.keys())
+    for name, circle in others:
+        print(f"{name}: {circle}")
+    for name, circle in sorted((name, ", ".join(sorted(circle))) for name, circle in RECURSIVE.keys() - found if name in sources):
+        print(f"{name}: {circle}: they are named here and import one another in no circle")
+    count = sum(map(len, sources.values()))
+    print(f"modules that import one another in a circle: {len(others)}, of {count} in {len(crates)} crates")
+    return 1 if others or any(name in sources for name, _ in RECURSIVE.keys() - found) else 0
 
 
 if __name__ == "__main__":

@@ -184,7 +184,7 @@ class Tried(Programs):
         with TemporaryDirectory() as folder:
             rows = Path(folder, "rows")
             rows.write_text("".join(f"{row_of(program, words)}\n" for program, words in calls), encoding="ascii")
-            status, output = tried("xgolden_run", [rows])
+            status, output = tried("xgolden_run", ["run", rows])
         answers = answers_in(output)
         if status or len(answers) != len(calls):
             raise NotChecked(command.CANT, "`rt try` in crates/xgolden_run doesn't run the programs to their end")

@@ -505,12 +505,6 @@ class DocumentedTest(unittest.TestCase):
             self.assertIn(f"  {option}", check_program.__doc__)
             self.assertIn(f" {option} ", completion)
 
-    @unittest.skipUnless(which("mandoc"), "mandoc isn't there")
-    def test_pages(self):
-        for page in sorted((Path(__file__).resolve().parents[2] / "man").glob("*.1")):
-            done = subprocess.run(["mandoc", "-Tlint", "-W", "warning", page], capture_output=True, text=True)
-            self.assertEqual((done.returncode, done.stdout), (0, ""), page.name)
-
     def recipe(self, status):
         """What the page's recipe leaves of a list of publishers where the check of the known program ends with a status."""
         page = (Path(__file__).resolve().parents[2] / "docs/SCRIPTING.md").read_text("utf-8")

@@ -4,7 +4,6 @@
 """
 
 import re
-import subprocess
 import sys
 import unittest
 from hashlib import sha256
@@ -15,6 +14,8 @@ from struct import pack
 from tempfile import TemporaryDirectory
 from unittest.mock import Mock, patch
 
+from cryptography.exceptions import UnsupportedAlgorithm
+
 sys.path.insert(0, str(Path(__file__).resolve().parents[1]))
 
 import order_bag
@@ -24,7 +25,7 @@ import verdict_table
 from cases import basic_world
 from common import folders
 from common.command import Refusal
-from common.openssl import OpensslError, openssl
+from common.openssl import openssl
 from gate.programs_stand_in import StandIn
 from interop import chains, signed_programs, table_makers, world_signatures
 from interop.signature_making import portable_executable
@@ -171,7 +172,7 @@ class VerdictTableTest(unittest.TestCase):
             ("malformed", one.signature[1:]), ("malformed", one.signature + b"\0"), ("malformed", b""),
         ])
 
-    def test_what_openssl_cant_verify(self):
+    def test_no_row(self):
         def by_key(one, octets, signature):
             """The same by a key of other octets."""
             info = one.key.key_info
@@ -183,22 +184,20 @@ class VerdictTableTest(unittest.TestCase):
 
         curve = self.by_new_key("sha256", "-algorithm", "EC", "-pkeyopt", "ec_paramgen_curve:P-256")
         rsa = self.asked("program, RSA, sha256")
-        # A point that isn't on the curve; keys of RSA whose modulus or exponent is longer than openssl computes with.
+        # A point that isn't on the curve; keys of RSA whose modulus or exponent is longer than OpenSSL computes with.
         for one, why in (
-            (by_key(curve, b"\4" + b"\1" * 64, curve.signature), "Could not read public key"),
-            (by_key(rsa, rsa_key(2500, b"\1\0\1"), bytes(2500)), "modulus too large"),
-            (by_key(rsa, rsa_key(512, b"\1" * 9), bytes(512)), "bad e value"),
+            (by_key(curve, b"\4" + b"\1" * 64, curve.signature), "its key isn't a point of p256"),
+            (by_key(rsa, rsa_key(2500, b"\1\0\1"), bytes(2500)), "the modulus of its key has more than 16384 bits"),
+            (by_key(rsa, rsa_key(512, b"\1" * 9), bytes(512)), "the exponent of its key has more than 64 bits"),
         ):
-            for version in 1, 2:
-                lines, lacking = asked_signatures.table_of([one], version)
-                self.assertEqual(lines, ["picky-verdicts 2"][:version - 1])
-                self.assertEqual(len(lacking), 1)
-                self.assertTrue(lacking[0].startswith(f"one: openssl can't verify it: {why}"), lacking)
-                self.assertNotIn("\n", lacking[0])
-            # For octets that are no signature of the algorithm, openssl isn't needed.
-            self.assertEqual(one._replace(signature=b"\1").verdict(), "malformed")
-        with patch.object(verdict_table, "openssl", side_effect=OpensslError("none", errors="no such digest\nmore\n")):
-            self.assertEqual(asked_signatures.table_of([rsa]), ([], [f"{rsa.what}: openssl can't verify it: no such digest"]))
+            # Nor has it one of octets that are no signature of the algorithm.
+            for signature in one.signature, b"\1":
+                for version in 1, 2:
+                    lines, lacking = asked_signatures.table_of([one._replace(signature=signature)], version)
+                    self.assertEqual((lines, lacking), (["picky-verdicts 2"][:version - 1], [f"one: it has no row: {why}"]))
+        with patch.object(verdict_table, "verify", side_effect=UnsupportedAlgorithm("no such digest")):
+            why = "the library doesn't compute with its algorithm or key"
+            self.assertEqual(asked_signatures.table_of([rsa]), ([], [f"{rsa.what}: it has no row: {why}"]))
 
     def test_verdicts(self):
         self.assertEqual(verdicts(""), {"": "accept"})
@@ -385,18 +384,12 @@ class QuestionLinesTest(unittest.TestCase):
             makers = table_makers.makers(folder)
             for text, part in self.altered():
                 for name, words in makers.items():
-                    status, printed, said = self.made(words, text.encode())
-                    self.assertEqual((status, printed, said.count("\n")), (1, "", 1), name)
+                    status, printed, (said,) = table_makers.Made.by(words, text.encode())
+                    self.assertEqual((status, printed), (1, ""), name)
                     self.assertIn(f"has another SHA-256 than that of its {part}" if part else "", said, name)
 
-    @staticmethod
-    def made(words, octets):
-        """Status, output and standard error of a maker."""
-        done = subprocess.run(words, input=octets, capture_output=True)
-        return done.returncode, done.stdout.decode(), done.stderr.decode()
-
     def ended_otherwise(self):
-        """Octets whose lines end by something else than one newline, and the sentence of the makers in Python."""
+        """Octets whose lines end by something else than one newline, and the sentence of the makers."""
         first, second = (line.encode() for line in self.lines()[:2])
         form = "question {} isn't in the form of one"
         for end in b"\r\n", b"\r", b"\x0b", b"\x0c", b"\x1c", b"\x1d", b"\x1e", b"\0", b" \n", b"\n\n":
@@ -416,11 +409,10 @@ class QuestionLinesTest(unittest.TestCase):
             makers = table_makers.makers(folder)
             for octets, why in self.ended_otherwise():
                 for name, words in makers.items():
-                    status, printed, said = self.made(words, octets)
-                    self.assertEqual((status, printed, said.count("\n")), (1, "", 1), (name, octets[-8:]))
-                    self.assertIn(": " if name == "libcrypto" else f": {why}\n", said, name)
-            tables = {self.made(words, "".join(f"{line}\n" for line in self.lines()[:2]).encode()) for words in makers.values()}
-            self.assertEqual([(status, said) for status, _, said in tables], [(0, "")])
+                    self.assertEqual(table_makers.Made.by(words, octets), (1, "", [why]), (name, octets[-8:]))
+            lines = "".join(f"{line}\n" for line in self.lines()[:2]).encode()
+            whole = [table_makers.Made.by(words, lines) for words in makers.values()]
+            self.assertEqual([(made.status, made.said, made.table.count("\n")) for made in whole], [(0, [], 3)] * len(makers))
 
     def test_a_pool(self):
         """The questions of a chain, whatever the order of the certificates, and that of the root over itself."""

@@ -1,5 +1,11 @@
-//! Checks of Authenticode signatures over octets in memory. What is accepted is vouched for; the
-//! proof is of the static library, not of this crate.
+//! Checks of Authenticode signatures over octets in memory. The proof is of the static library, not of
+//! this crate.
+//!
+//! [`Answer::Accepted`] isn't enough to install a program. An accepted signature with an empty `path=`
+//! is vouched for by nobody: anyone can make its certificate. A path is worth what its last certificate
+//! is, since no root is checked. So compare the whole line with the one that you expect, and pin the
+//! signer's key (a table without rows of other keys) or find a path to a root that you trust (as the
+//! last certificate of [`chain`]): docs/MANUAL.md, "Who signed".
 
 pub mod sys;
 mod table;
@@ -8,8 +14,9 @@ pub use table::{Table, TableError};
 
 /// What a check answers. A word with a newline has the status 2.
 #[derive(Clone, Debug, PartialEq, Eq)]
+#[must_use]
 pub enum Answer {
-    /// The line says which certificates vouch for the signature.
+    /// The line says which certificates vouch for the signer's: none where `path=` is empty.
     Accepted(String),
     /// The line names the cause.
     Refused(String),

@@ -14,7 +14,7 @@ impl Handle {
     pub const NONE: Handle = Handle { inside: ptr::null_mut() };
 }
 
-// SAFETY: it is proved of the library that a handle may go to another thread; each call borrows it alone.
+// SAFETY: picky.h lets a handle go to another thread; each call borrows it alone.
 unsafe impl Send for Handle {}
 
 type CallWithTable = unsafe extern "C" fn(

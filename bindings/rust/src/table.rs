@@ -1,6 +1,7 @@
 //! A verdict table that was parsed once.
 
 use crate::sys;
+use std::{error::Error, fmt};
 
 /// Why a text wasn't taken.
 #[derive(Clone, Copy, Debug, PartialEq, Eq)]
@@ -8,6 +9,17 @@ pub enum TableError {
     BadTable,
     OutOfMemory,
 }
+
+impl fmt::Display for TableError {
+    fn fmt(&self, out: &mut fmt::Formatter<'_>) -> fmt::Result {
+        out.write_str(match self {
+            TableError::BadTable => "the verdict table has a bad line",
+            TableError::OutOfMemory => "out of memory",
+        })
+    }
+}
+
+impl Error for TableError {}
 
 /// A verdict table for many calls, one at a time. Without a text, the file TABLE
 /// isn't there.
