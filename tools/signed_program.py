@@ -83,10 +83,11 @@ def image_digest(program, digest):
     hashed = new(digest)
     if not hashed.digest_size:
         raise ValueError(f"{digest} has digests of any length")
-    hashed.update(program[:optional + CHECKSUM])
-    hashed.update(program[optional + CHECKSUM + 4:optional + place])
-    hashed.update(program[optional + place + 8:end])
-    hashed.update(program[end + length:])
+    held = memoryview(program)
+    hashed.update(held[:optional + CHECKSUM])
+    hashed.update(held[optional + CHECKSUM + 4:optional + place])
+    hashed.update(held[optional + place + 8:end])
+    hashed.update(held[end + length:])
     return hashed.hexdigest()
 
 

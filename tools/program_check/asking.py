@@ -68,10 +68,10 @@ def pairs_of(children, parents, trusted=()) -> Pairs:
     found.sort(key=lambda pair: (pair.child.is_self_issued(), pair.child.authority_key is None, pair.parent not in roots))
     asked, octets = [], 0
     for pair in found[:MOST_PAIRS]:
-        octets += len(pair.child.der) + len(pair.parent.der)
-        if octets > MOST_OCTETS:
-            break
-        asked.append(pair)
+        size = len(pair.child.der) + len(pair.parent.der)
+        if octets + size <= MOST_OCTETS:
+            asked.append(pair)
+            octets += size
     return Pairs(asked, len(found) - len(asked))
 
 

@@ -28,10 +28,10 @@ def describe(report, subject, alone):
     describe_others(report, subject, alone)
 
 
-def table_of(subject):
-    """The certificate table of a program."""
+def further_of(subject, most):
+    """The signatures behind the first entry of a program's table."""
     _, _, at, length = signed_program.parts(subject.octets)
-    return subject.octets[at:at + length]
+    return further_entries(subject.octets, at, at + length, len(subject.entry), most)
 
 
 def unsigned(subject, alone):
@@ -41,7 +41,7 @@ def unsigned(subject, alone):
     if behind:
         yield behind, "behind the signature, within the length that its header states"
     if not alone:
-        left = further_entries(table_of(subject), len(subject.entry), 0).left
+        left = further_of(subject, 0).left
         if left:
             yield left, "behind its entries"
 
@@ -51,7 +51,7 @@ def describe_others(report, subject, alone):
     found, count = subject.signature.nested(MOST_OTHERS)
     lines = [("in an attribute", one) for one in found]
     if not alone:
-        further = further_entries(table_of(subject), len(subject.entry), MOST_OTHERS - len(lines))
+        further = further_of(subject, MOST_OTHERS - len(lines))
         lines += [("as a further entry", one) for one in further.described]
         count += further.count
         report.notes += [notes.TWO_ENTRIES] if further.count else []

@@ -80,11 +80,11 @@ def digest_by_sections(program: bytes, image: Image, digest: str) -> str:
     optional, place, at, _ = signed_program.parts(program)
     hashed = new(digest)
     checksum = optional + signed_program.CHECKSUM
-    for part in program[:checksum], program[checksum + 4:optional + place], program[optional + place + 8:image.headers]:
-        hashed.update(part)
-    done = image.headers
+    held, done = memoryview(program), image.headers
+    for begin, end in (0, checksum), (checksum + 4, optional + place), (optional + place + 8, image.headers):
+        hashed.update(held[begin:end])
     for one in sorted(image.sections):
-        hashed.update(program[one.begin:one.end])
+        hashed.update(held[one.begin:one.end])
         done += one.end - one.begin
-    hashed.update(program[min(done, at):at])
+    hashed.update(held[min(done, at):at])
     return hashed.hexdigest()

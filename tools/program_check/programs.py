@@ -8,24 +8,30 @@ no answer.  Anything else is a `Disagreement`: then nothing is accepted.
 import os
 import re
 import signal
+import subprocess
 from hashlib import sha256
 from pathlib import Path
 from shutil import which
-from tempfile import TemporaryDirectory
+from tempfile import TemporaryDirectory, TemporaryFile
 from typing import NamedTuple
 
 from common import command, folders
 from common.calls import TimedOut, called
+from common.calls import ended as end
 from common.shown import clean
 
 # An index, and a list of some.
 INDEX = "[0-9]{1,9}"
 INDEXES = f"(?:{INDEX}(?:,{INDEX})*)?"
 SIGNED = rf"signer=(?P<signer>{INDEX}) path=(?P<path>{INDEXES}) excuse=(?P<excuse>none|bag|token)\n"
+LINE = r"[a-z0-9-]+(?: [0-9a-f]{64}){3}(?: [0-9a-f]*){3}\n"
+QUESTION = re.compile(LINE.encode("ascii"))
+# More octets than the line of any refusal has.
+MOST_REFUSAL = 65_536
 ACCEPTED = {
     "picky": rf"accepted (?:parents=(?P<parents>{INDEX})\n|{SIGNED})",
     "picky_pe": rf"accepted {SIGNED}",
-    "picky_ask": r"(?:[a-z0-9-]+(?: [0-9a-f]{64}){3}(?: [0-9a-f]*){3}\n)*",
+    "picky_ask": rf"(?:{LINE})*",
     "picky_anchor": rf"anchored pool=(?P<pool>{INDEXES}) anchor=(?P<anchor>{INDEX})\n",
 }
 REFUSED = re.compile(r"refused (?P<name>[A-Za-z0-9]+(?::[A-Za-z0-9]+)*)\n")
@@ -146,23 +152,48 @@ class Programs:
         return Answer(program, shown, done.returncode, done.stdout.decode("utf-8", "replace"))
 
     def questions_of(self, words):
-        """The questions that `picky_ask` lists, without all of them in memory."""
+        """The questions that `picky_ask` lists, one after another: they may be long, so they stay in a file until they are read."""
+        written = TemporaryFile()
+        status = ended(self.path(ASK), words, written)
+        written.seek(0)
+        if status == 0:
+            return Asked(questions_in(written), "")
+        answer = Answer(ASK, ASK, status, written.read(MOST_REFUSAL).decode("utf-8", "replace"))
+        answer.accepted()
+        return Asked(None, answer.line())
+
+    def in_memory(self, words):
+        """The same where the answer is at hand."""
         answer = self.run(ASK, words, ASK)
         if answer.accepted() is None:
             return Asked(None, answer.line())
-        return Asked(lines_of(answer.output), "")
+        return Asked(iter(answer.output.splitlines()), "")
 
     def expect(self, calls):
         """Takes note of calls that are likely to be made, each a program and its words; a built program answers at once."""
 
 
-def lines_of(text):
-    """The lines of a text, which end by a newline each, without a copy of the whole."""
-    at = 0
-    while at < len(text):
-        end = text.index("\n", at)
-        yield text[at:end]
-        at = end + 1
+def ended(path, words, output):
+    """The status of a program that writes to a file; NotChecked where it can't start or takes too long."""
+    try:
+        with subprocess.Popen([path, *words], stdin=subprocess.DEVNULL, stdout=output, stderr=subprocess.DEVNULL, start_new_session=True) as process:
+            try:
+                return process.wait(SECONDS)
+            except BaseException:
+                end(process)
+                raise
+    except OSError as refusal:
+        raise NotChecked(command.CANT, f"{path.name} can't be started: {command.sentence(refusal)}") from refusal
+    except subprocess.TimeoutExpired as late:
+        raise NotChecked(command.CANT, f"{path.name} didn't end within {SECONDS} seconds") from late
+
+
+def questions_in(stream):
+    """The lines of a file of questions; a Disagreement where one is none."""
+    for line in stream:
+        if not QUESTION.fullmatch(line):
+            raise Disagreement(f"{ASK} ends with status 0 and prints {clean(line[:200].decode('utf-8', 'replace'), 200)}, which is none of its answers")
+        yield line[:-1].decode("ascii")
 
 
 class Tried(Programs):
@@ -174,6 +205,9 @@ class Tried(Programs):
     proved = False
     quick = False
     progress = "`rt try` compiles the programs and calls them, in some minutes"
+
+    # Answers are kept in memory.
+    questions_of = Programs.in_memory
 
     def __init__(self):
         super().__init__()

@@ -74,18 +74,23 @@ def values_of(attributes: Element | None, oid: str):
 
 
 class SignedData(NamedTuple):
-    """Signed data with its certificates, those that are in the form of one, and its first signer."""
+    """Signed data with its certificates, those that are in the form of one, how many octets the others have, and its first signer."""
 
     fields: Fields
     certificates: list
+    others: int
     signer: Signer | None
 
     @classmethod
     def of(cls, element: Element) -> "SignedData":
         fields = Fields.of(element)
         signer = fields.first_signer()
-        members = fields.certificates.walk() if fields.certificates else ()
-        return cls(fields, list(filter(None, map(certificate_in, members))), Signer.of(signer) if signer else None)
+        found, others = [], 0
+        for member in fields.certificates.walk() if fields.certificates else ():
+            one = certificate_in(member)
+            found += [one] if one else []
+            others += 0 if one else member.end - member.at
+        return cls(fields, found, others, Signer.of(signer) if signer else None)
 
     def certificate_of(self, signer: Signer) -> Certificate | None:
         return next((one for one in self.certificates if signer.names(one)), None)
@@ -197,9 +202,8 @@ class Signature:
         fields = self.signed.fields
         if fields.lists is not None and fields.lists.end > fields.lists.begin:
             yield fields.lists.end - fields.lists.begin, "in place of revocation lists"
-        held = sum(one.end - one.at for one in fields.certificates.walk() if certificate_in(one) is None) if fields.certificates else 0
-        if held:
-            yield held, "among the certificates, in none that is read here"
+        if self.signed.others:
+            yield self.signed.others, "among the certificates, in none that is read here"
         known = {signed_data.TOKEN, COUNTERSIGNATURE, NESTED}
         others = [one for one in self.signer.fields.unsigned.walk() if kind_of(one) not in known] if self.signer and self.signer.fields.unsigned else []
         if others:
@@ -258,19 +262,19 @@ class Further(NamedTuple):
     left: int
 
 
-def further_entries(table: bytes, length: int, most: int) -> Further:
-    """The signatures behind the first entry of so many octets; entries begin at multiples of eight."""
-    found, count, at = [], 0, (length + 7) // 8 * 8
-    while at + HEADER <= len(table):
-        stated, = unpack_from("<I", table, at)
-        if not HEADER < stated <= len(table) - at:
+def further_entries(program: bytes, begin: int, end: int, length: int, most: int) -> Further:
+    """The signatures behind the first entry, of so many octets, of the table between two places; entries begin at multiples of eight from its start."""
+    found, count, at = [], 0, begin + (length + 7) // 8 * 8
+    while at + HEADER <= end:
+        stated, = unpack_from("<I", program, at)
+        if not HEADER < stated <= end - at:
             break
         count += 1
         if count <= most:
-            found.append(entry_in_words(table[at:at + stated]))
+            found.append(entry_in_words(program[at:at + stated]))
         at += (stated + 7) // 8 * 8
-    rest = table[min(at, len(table)):]
-    return Further(found, count, len(rest) if len(rest) >= HEADER or any(rest) else 0)
+    left = max(end - at, 0)
+    return Further(found, count, left if left >= HEADER or program.count(0, at, end) < left else 0)
 
 
 def entry_in_words(entry: bytes) -> str:
