@@ -131,13 +131,11 @@ class Signature:
     def in_order(self, first: list) -> bytes:
         """The entry with these certificates in front, in their order: no signature is over the order of certificates (RFC 5652 5.4)."""
         held = self.signed.fields.certificates
-        members = [one.encoding for one in held.walk()]
-        front = []
+        members, front = list(held.walk()), []
         for certificate in first:
-            if certificate.der in members:
-                members.remove(certificate.der)
-                front.append(certificate.der)
-        return b"".join((self.entry[:held.begin], *front, *members, self.entry[held.end:]))
+            at = next((at for at, one in enumerate(members) if one.end - one.at == certificate.length() and one.encoding == certificate.der), None)
+            front += [] if at is None else [members.pop(at)]
+        return b"".join((self.entry[:held.begin], *(one.encoding for one in (*front, *members)), self.entry[held.end:]))
 
     def stated_digest(self) -> tuple | None:
         """The algorithm and the digest of the program in the signed content; None where they aren't read."""
