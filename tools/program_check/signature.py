@@ -4,7 +4,6 @@ Nothing here decides: what the proved programs read of the same octets does.
 """
 
 from functools import cached_property
-from itertools import islice
 from struct import unpack_from
 from typing import NamedTuple
 
@@ -172,16 +171,14 @@ class Signature:
         except NOT_READ:
             return None
 
-    def stamps(self) -> tuple:
-        """The first time stamps of the signer, tokens (RFC 3161) ahead of counter-signatures (PKCS #9), and whether there are more."""
-        found: list = []
+    def stamps(self):
+        """The time stamps of the signer, one after another: tokens (RFC 3161) ahead of counter-signatures (PKCS #9)."""
         for oid, read in ((signed_data.TOKEN, token), (COUNTERSIGNATURE, countersignature)) if self.signer else ():
             try:
-                for value in islice(self.signer.values(oid), MOST_STAMPS + 1):
-                    found.append(stamp_of(value, read, self))
+                for value in self.signer.values(oid):
+                    yield stamp_of(value, read, self)
             except NOT_READ:
-                found.append(UNREADABLE)
-        return found[:MOST_STAMPS], len(found) > MOST_STAMPS
+                yield UNREADABLE
 
     def nested(self, most: int) -> tuple:
         """So many of the signatures in attributes of the signer, in words, and how many there are."""
