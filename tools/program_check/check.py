@@ -16,6 +16,7 @@ from typing import NamedTuple
 
 import signed_program
 from common import command
+from common.der import NotRead
 from common.signed_data import DIGESTS, NotASignatureFile
 from ordered_program import with_entry
 from program_check import anchors, asking, explain, expiry, kinds, notes, opinion, reasons, stamps, text
@@ -91,6 +92,10 @@ def check(question):
             Check(question, report, anchors.Files(Path(folder))).run()
     except NotChecked as refusal:
         report.not_checked(refusal.status, str(refusal))
+    except NotRead as refusal:
+        # Nothing that is shown of a file decides: one that can't be shown isn't accepted.
+        report.root, report.path, report.signer_verified = None, [], False
+        report.refuse(f"the signature has a part that isn't read here: {refusal}", reasons.OTHER_TOOLS)
     except Disagreement as refusal:
         report.root, report.path, report.signer_verified = None, [], False
         report.refuse(f"the programs disagree: {refusal}", "one of them was replaced or is damaged: build them anew")

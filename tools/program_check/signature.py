@@ -20,6 +20,8 @@ SIGNING_TIME = "1.2.840.113549.1.9.5"
 RSA_PSS = "1.2.840.113549.1.1.10"
 # Each stamp is a call of openssl with all certificates of the signature; signers have one.
 MOST_STAMPS = 8
+# More values of an attribute than are counted.
+MOST_VALUES = 1_000_000
 
 
 class Signer(NamedTuple):
@@ -69,7 +71,7 @@ def values_of(attributes: Element | None, oid: str):
     for one in attributes.walk() if attributes else ():
         kind, values = one.kids(2)
         if der.oid(kind) == oid:
-            yield from values.expect(der.SET).walk()
+            yield from values.expect(der.SET).walk(MOST_VALUES)
 
 
 class SignedData(NamedTuple):
@@ -199,10 +201,20 @@ class Signature:
             yield fields.lists.end - fields.lists.begin, "in place of revocation lists"
         if self.signed.others:
             yield self.signed.others, "among the certificates, in none that is read here"
-        known = {signed_data.TOKEN, COUNTERSIGNATURE, NESTED}
-        others = [one for one in self.signer.fields.unsigned.walk() if kind_of(one) not in known] if self.signer and self.signer.fields.unsigned else []
-        if others:
-            yield sum(one.end - one.at for one in others), f"in {text.counted(len(others), 'unsigned attribute')} of a kind that isn't known here"
+        if self.signer and self.signer.fields.unsigned:
+            yield from unsigned_in(self.signer.fields.unsigned)
+
+
+def unsigned_in(attributes: Element):
+    """How many octets are in unsigned attributes of a kind that isn't known here, and that they are there."""
+    known = {signed_data.TOKEN, COUNTERSIGNATURE, NESTED}
+    try:
+        others = [one.end - one.at for one in attributes.walk() if kind_of(one) not in known]
+    except NOT_READ:
+        yield attributes.end - attributes.begin, "in unsigned attributes that aren't read here"
+        return
+    if others:
+        yield sum(others), f"in {text.counted(len(others), 'unsigned attribute')} of a kind that isn't known here"
 
 
 UNREAD = "one that can't be read"

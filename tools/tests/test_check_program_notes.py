@@ -10,6 +10,7 @@ import unittest
 from pathlib import Path
 from struct import pack
 from tempfile import TemporaryDirectory
+from unittest.mock import patch
 
 sys.path.insert(0, str(Path(__file__).resolve().parents[1]))
 
@@ -17,6 +18,7 @@ from cryptography import x509
 from cryptography.x509.oid import ObjectIdentifier
 
 import signed_program
+from common.der import NotRead
 from gate.check_program_calls import STORED, changed, checked
 from gate.made_programs import CODE_SIGNING, SERVERS, Holder, chain, entry, rsa_key, signed, with_table
 from gate.programs_stand_in import StandIn
@@ -199,6 +201,21 @@ class UnsignedTest(unittest.TestCase):
                 self.assertEqual(report.other_signatures[-1], f"and {many - MOST_OTHERS:,} more, which aren't listed")
             self.assertLess(len(json.dumps(report.json())), 40_000)
             self.assertNotIn("osslsigncode verify", report.other_signatures[0])
+
+    def test_attributes_that_arent_read(self):
+        """More than are looked at, and octets that are no attributes: a report all the same."""
+        empty = Constructed(0x30, (Primitive(6, bytes.fromhex("2a0304")), Constructed(0x31, ())))
+        one, = self.said(signed(self.signer, [self.signer.der], unsigned=[empty] * 10_001))
+        self.assertIn("in unsigned attributes that aren't read here", one)
+        for inside in Constructed(0x30, ()), Primitive(5, b""), Constructed(0x30, (Primitive(5, b""), Constructed(0x31, ()))):
+            self.assertEqual(self.report(signed(self.signer, [self.signer.der], unsigned=[inside])).verdict, "refused")
+
+    def test_a_part_that_isnt_read(self):
+        """Wherever reading fails, the file is refused with a sentence."""
+        with patch("program_check.check.describe", side_effect=NotRead("an element is cut off")):
+            report = self.report(signed(self.signer, [self.signer.der]))
+        self.assertEqual((report.verdict, report.status, report.root), ("refused", 1, None))
+        self.assertIn("a part that isn't read here: an element is cut off", report.sentence)
 
     def test_a_long_digest(self):
         """A signed digest of a million octets is no digest, and isn't shown whole."""
