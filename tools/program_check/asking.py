@@ -68,7 +68,7 @@ def pairs_of(children, parents, trusted=()) -> Pairs:
     found.sort(key=lambda pair: (pair.child.is_self_issued(), pair.child.authority_key is None, pair.parent not in roots))
     asked, octets = [], 0
     for pair in found[:MOST_PAIRS]:
-        size = len(pair.child.der) + len(pair.parent.der)
+        size = pair.child.length() + pair.parent.length()
         if octets + size <= MOST_OCTETS:
             asked.append(pair)
             octets += size

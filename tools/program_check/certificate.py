@@ -38,10 +38,10 @@ MOST_EXTENSIONS, MOST_USAGES = 100, 20
 class Certificate:
     """The octets of a certificate that is read here, with what is shown of it."""
 
-    def __init__(self, octets: bytes):
-        """What NOT_READ has where the octets aren't in the form of a certificate."""
-        self.der = octets
-        tbs, algorithm, signature = der.whole(octets).expect(der.SEQUENCE).kids(3)
+    def __init__(self, octets: bytes | Element):
+        """What NOT_READ has where the octets, or the element, aren't in the form of a certificate."""
+        self._element = octets if isinstance(octets, Element) else der.whole(octets)
+        tbs, algorithm, signature = self._element.expect(der.SEQUENCE).kids(3)
         fields = tbs.expect(der.SEQUENCE).kids(10)
         serial, _, issuer, validity, subject, key, *others = fields[1:] if fields[0].tag == VERSION else fields
         begins, ends = validity.expect(der.SEQUENCE).kids(2)
@@ -57,11 +57,23 @@ class Certificate:
         self._key_bits = held
         der.bits(held), der.bits(signature)
 
+    @property
+    def der(self) -> bytes:
+        return self._element.encoding
+
+    @cached_property
+    def own(self) -> bytes:
+        """What it is told from others by."""
+        return sha256(self.der).digest()
+
     def __eq__(self, other):
-        return isinstance(other, Certificate) and self.der == other.der
+        return isinstance(other, Certificate) and self.own == other.own
 
     def __hash__(self):
-        return hash(self.der)
+        return hash(self.own)
+
+    def length(self) -> int:
+        return self._element.end - self._element.at
 
     # What a signature on it is over, and by which key those that it makes are verified.
 
@@ -192,7 +204,7 @@ class Certificate:
 def certificate_in(element: Element) -> Certificate | None:
     """A member of signed data as a certificate, None where it isn't in the form of one."""
     try:
-        return Certificate(element.encoding)
+        return Certificate(element)
     except NOT_READ:
         return None
 

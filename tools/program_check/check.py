@@ -9,12 +9,14 @@ that they read has each signature that this rests on.
 from dataclasses import dataclass
 from datetime import datetime, timezone
 from hashlib import sha256
+from itertools import islice
 from pathlib import Path
 from tempfile import TemporaryDirectory
 from typing import NamedTuple
 
 import signed_program
 from common import command
+from common.der import NotRead
 from common.signed_data import DIGESTS, NotASignatureFile
 from ordered_program import with_entry
 from program_check import anchors, asking, explain, expiry, kinds, notes, opinion, reasons, stamps, text
@@ -90,6 +92,10 @@ def check(question):
             Check(question, report, anchors.Files(Path(folder))).run()
     except NotChecked as refusal:
         report.not_checked(refusal.status, str(refusal))
+    except NotRead as refusal:
+        # Nothing that is shown of a file decides: one that can't be shown isn't accepted.
+        report.root, report.path, report.signer_verified = None, [], False
+        report.refuse(f"the signature has a part that isn't read here: {refusal}", reasons.OTHER_TOOLS)
     except Disagreement as refusal:
         report.root, report.path, report.signer_verified = None, [], False
         report.refuse(f"the programs disagree: {refusal}", "one of them was replaced or is damaged: build them anew")
@@ -152,8 +158,11 @@ class Check:
         if name is None:
             raise Disagreement(f"{answer.program} accepts a file in which no signature is read here")
         said, hint = reasons.of(name, {})
-        if then is None:
-            sentence, then = (said, hint) if name in reasons.PROGRAM else (f"{sentence} ({said})", hint)
+        if then is None and name in reasons.PROGRAM:
+            sentence, then = said, hint
+        elif then is None:
+            # What a program says of a signature that isn't read here, by a table without a row, says nothing of whether it is good.
+            sentence, then = (f"{sentence} ({said})", hint) if name in reasons.OF_FORM else (sentence, reasons.OTHER_TOOLS)
         self.report.refuse(sentence, then, name)
 
     def decider(self):
@@ -178,9 +187,9 @@ class Check:
         """DATE: the one that is given, else the time of a good stamp, else now."""
         question, now = self.question, self.question.moment()
         question.progress("openssl verifies time stamps")
-        held, more = subject.signature.stamps()
-        found = [stamps.verified(one, subject.signature.signer.octets, question.stamp_roots.ders()) for one in held]
-        self.report.notes += [notes.STAMPS.format(MOST_STAMPS)] if more else []
+        held = subject.signature.stamps()
+        found = [stamps.verified(one, subject.signature.signer.octets, question.stamp_roots.ders()) for one in islice(held, MOST_STAMPS)]
+        self.report.notes += [notes.STAMPS.format(MOST_STAMPS)] if next(held, None) is not None else []
         self.report.notes += [notes.LIFETIME] if found and self.is_for_a_lifetime(subject) else []
         used = None if question.at or self.is_for_a_lifetime(subject) else stamps.used(found, stamps.epoch(now))
         self.report.stamps = [one.shown(one is used) for one in found]

@@ -6,6 +6,8 @@ from program_check.signature import further_entries
 
 # Lines on signatures that aren't looked at, and certificates that are listed.
 MOST_OTHERS, MOST_CERTIFICATES = 100, 100
+# The octets of the longest digest (FIPS 180-4).
+MOST_DIGEST = 64
 SIGNTOOL = "`signtool verify /all` checks it"
 OTHERS = {"in an attribute": f"`osslsigncode verify` or {SIGNTOOL}", "as a further entry": f"{SIGNTOOL}, and osslsigncode refuses a program of two entries"}
 
@@ -15,7 +17,7 @@ def describe(report, subject, alone):
     signature, certificate = subject.signature, subject.certificate()
     stated = signature.stated_digest()
     if subject.digest is not None:
-        report.digest = {"algorithm": stated[0] if stated else "of --digest", "value": subject.digest.hex(), "signed": stated[1].hex() if stated else None}
+        report.digest = {"algorithm": stated[0] if stated else "of --digest", "value": subject.digest.hex(), "signed": stated[1][:MOST_DIGEST].hex() if stated else None}
     if certificate is not None:
         report.signer = certificate.shown()
     report.certificates = [one.shown() for one in signature.certificates[:MOST_CERTIFICATES]]

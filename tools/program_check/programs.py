@@ -193,7 +193,8 @@ def questions_in(stream):
     for line in stream:
         if not QUESTION.fullmatch(line):
             raise Disagreement(f"{ASK} ends with status 0 and prints {clean(line[:200].decode('utf-8', 'replace'), 200)}, which is none of its answers")
-        yield line[:-1].decode("ascii")
+        line = str(memoryview(line)[:-1], "ascii")
+        yield line
 
 
 class Tried(Programs):

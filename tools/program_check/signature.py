@@ -4,7 +4,6 @@ Nothing here decides: what the proved programs read of the same octets does.
 """
 
 from functools import cached_property
-from itertools import islice
 from struct import unpack_from
 from typing import NamedTuple
 
@@ -21,6 +20,8 @@ SIGNING_TIME = "1.2.840.113549.1.9.5"
 RSA_PSS = "1.2.840.113549.1.1.10"
 # Each stamp is a call of openssl with all certificates of the signature; signers have one.
 MOST_STAMPS = 8
+# More values of an attribute than are counted.
+MOST_VALUES = 1_000_000
 
 
 class Signer(NamedTuple):
@@ -70,7 +71,7 @@ def values_of(attributes: Element | None, oid: str):
     for one in attributes.walk() if attributes else ():
         kind, values = one.kids(2)
         if der.oid(kind) == oid:
-            yield from values.expect(der.SET).walk()
+            yield from values.expect(der.SET).walk(MOST_VALUES)
 
 
 class SignedData(NamedTuple):
@@ -131,13 +132,11 @@ class Signature:
     def in_order(self, first: list) -> bytes:
         """The entry with these certificates in front, in their order: no signature is over the order of certificates (RFC 5652 5.4)."""
         held = self.signed.fields.certificates
-        members = [one.encoding for one in held.walk()]
-        front = []
+        members, front = list(held.walk()), []
         for certificate in first:
-            if certificate.der in members:
-                members.remove(certificate.der)
-                front.append(certificate.der)
-        return b"".join((self.entry[:held.begin], *front, *members, self.entry[held.end:]))
+            at = next((at for at, one in enumerate(members) if one.end - one.at == certificate.length() and one.encoding == certificate.der), None)
+            front += [] if at is None else [members.pop(at)]
+        return b"".join((self.entry[:held.begin], *(one.encoding for one in (*front, *members)), self.entry[held.end:]))
 
     def stated_digest(self) -> tuple | None:
         """The algorithm and the digest of the program in the signed content; None where they aren't read."""
@@ -174,16 +173,14 @@ class Signature:
         except NOT_READ:
             return None
 
-    def stamps(self) -> tuple:
-        """The first time stamps of the signer, tokens (RFC 3161) ahead of counter-signatures (PKCS #9), and whether there are more."""
-        found: list = []
+    def stamps(self):
+        """The time stamps of the signer, one after another: tokens (RFC 3161) ahead of counter-signatures (PKCS #9)."""
         for oid, read in ((signed_data.TOKEN, token), (COUNTERSIGNATURE, countersignature)) if self.signer else ():
             try:
-                for value in islice(self.signer.values(oid), MOST_STAMPS + 1):
-                    found.append(stamp_of(value, read, self))
+                for value in self.signer.values(oid):
+                    yield stamp_of(value, read, self)
             except NOT_READ:
-                found.append(UNREADABLE)
-        return found[:MOST_STAMPS], len(found) > MOST_STAMPS
+                yield UNREADABLE
 
     def nested(self, most: int) -> tuple:
         """So many of the signatures in attributes of the signer, in words, and how many there are."""
@@ -204,10 +201,20 @@ class Signature:
             yield fields.lists.end - fields.lists.begin, "in place of revocation lists"
         if self.signed.others:
             yield self.signed.others, "among the certificates, in none that is read here"
-        known = {signed_data.TOKEN, COUNTERSIGNATURE, NESTED}
-        others = [one for one in self.signer.fields.unsigned.walk() if kind_of(one) not in known] if self.signer and self.signer.fields.unsigned else []
-        if others:
-            yield sum(one.end - one.at for one in others), f"in {text.counted(len(others), 'unsigned attribute')} of a kind that isn't known here"
+        if self.signer and self.signer.fields.unsigned:
+            yield from unsigned_in(self.signer.fields.unsigned)
+
+
+def unsigned_in(attributes: Element):
+    """How many octets are in unsigned attributes of a kind that isn't known here, and that they are there."""
+    known = {signed_data.TOKEN, COUNTERSIGNATURE, NESTED}
+    try:
+        others = [one.end - one.at for one in attributes.walk() if kind_of(one) not in known]
+    except NOT_READ:
+        yield attributes.end - attributes.begin, "in unsigned attributes that aren't read here"
+        return
+    if others:
+        yield sum(others), f"in {text.counted(len(others), 'unsigned attribute')} of a kind that isn't known here"
 
 
 UNREAD = "one that can't be read"

@@ -45,15 +45,16 @@ def epoch(date):
 
 
 def verified(stamp, signature_octets, roots):
-    """What openssl says of a stamp over these octets; `roots` are the octets of certificates."""
+    """What openssl says of a stamp over these octets, which aren't kept; `roots` are the octets of certificates."""
+    kept = stamp._replace(octets=b"")
     if stamp.why or stamp.time is None:
-        return Verified(stamp, False, stamp.why or "it names no time")
+        return Verified(kept, False, stamp.why or "it names no time")
     if not roots:
-        return Verified(stamp, False, "no root is trusted")
+        return Verified(kept, False, "no root is trusted")
     try:
         moment = epoch(stamp.time)
     except ValueError:
-        return Verified(stamp, False, "its time doesn't exist")
+        return Verified(kept, False, "its time doesn't exist")
     with TemporaryDirectory() as place:
         folder = Path(place)
         (folder / "roots.pem").write_bytes(pem(roots))
@@ -63,8 +64,8 @@ def verified(stamp, signature_octets, roots):
         try:
             CHECKS[stamp.kind](folder, moment)
         except Refusal as refusal:
-            return Verified(stamp, False, reason(refusal, place))
-    return Verified(stamp, True)
+            return Verified(kept, False, reason(refusal, place))
+    return Verified(kept, True)
 
 
 def check_token(folder, moment):

@@ -406,7 +406,7 @@ class StampTest(unittest.TestCase):
     def test_a_counter_signature(self):
         octets = next(octets for known, _, octets in world_signatures.stored() if known == "program, a counter-signature")
         signature = Signature(basic_world.signature_file(octets))
-        (one,), _ = signature.stamps()
+        one, = signature.stamps()
         top = next(each.der for each in signature.certificates if each.is_self_issued())
         found = stamps.verified(one, signature.signer.octets, [top])
         self.assertEqual((one.kind, bool(one.by)), ("counter-signature (PKCS #9)", True))

@@ -183,7 +183,7 @@ class ExpiryTest(unittest.TestCase):
         self.assertIn("no stamp outlives it", self.hint("lifetime, stamped", now=LATER))
 
     def test_a_damaged_stamp(self):
-        token = Signature(signed_program.signature(STORED["stamped"].octets)).stamps()[0][0].octets
+        token = next(Signature(signed_program.signature(STORED["stamped"].octets)).stamps()).octets
         octets = STORED["stamped"].octets.replace(token, token[:-1] + bytes([token[-1] ^ 1]))
         report = checked(octets, now=LATER)
         self.assertIn("its stamp isn't good, for the reason that is above", report.next)

@@ -24,13 +24,14 @@ TOOLS = Path(__file__).resolve().parents[1]
 # The most octets of memory for each octet of the file, beside what a small file takes.
 TIMES = 8
 MEASURED = """
-import resource, runpy, sys
+import pathlib, runpy, sys
 sys.argv = sys.argv[1:]
 sys.path.insert(0, sys.argv[0].rpartition("/")[0])
 try:
     runpy.run_path(sys.argv[0], run_name="__main__")
 finally:
-    print("KB", resource.getrusage(resource.RUSAGE_SELF).ru_maxrss, file=sys.stderr)
+    # What getrusage has begins with the memory of who started the process.
+    print("KB", pathlib.Path("/proc/self/status").read_text().partition("VmHWM:")[2].split()[0], file=sys.stderr)
 """
 
 

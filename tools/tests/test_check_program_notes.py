@@ -10,6 +10,7 @@ import unittest
 from pathlib import Path
 from struct import pack
 from tempfile import TemporaryDirectory
+from unittest.mock import patch
 
 sys.path.insert(0, str(Path(__file__).resolve().parents[1]))
 
@@ -17,9 +18,11 @@ from cryptography import x509
 from cryptography.x509.oid import ObjectIdentifier
 
 import signed_program
+from common.der import NotRead
 from gate.check_program_calls import STORED, changed, checked
-from gate.made_programs import CODE_SIGNING, SERVERS, Holder, chain, rsa_key, signed
+from gate.made_programs import CODE_SIGNING, SERVERS, Holder, chain, entry, rsa_key, signed, with_table
 from gate.programs_stand_in import StandIn
+from interop.signature_making import portable_executable
 from judges.der_reader import Constructed, Primitive, read_exact, write
 from program_check import notes, roots
 from program_check.certificate import Certificate
@@ -198,6 +201,33 @@ class UnsignedTest(unittest.TestCase):
                 self.assertEqual(report.other_signatures[-1], f"and {many - MOST_OTHERS:,} more, which aren't listed")
             self.assertLess(len(json.dumps(report.json())), 40_000)
             self.assertNotIn("osslsigncode verify", report.other_signatures[0])
+
+    def test_attributes_that_arent_read(self):
+        """More than are looked at, and octets that are no attributes: a report all the same."""
+        empty = Constructed(0x30, (Primitive(6, bytes.fromhex("2a0304")), Constructed(0x31, ())))
+        one, = self.said(signed(self.signer, [self.signer.der], unsigned=[empty] * 10_001))
+        self.assertIn("in unsigned attributes that aren't read here", one)
+        for inside in Constructed(0x30, ()), Primitive(5, b""), Constructed(0x30, (Primitive(5, b""), Constructed(0x31, ()))):
+            self.assertEqual(self.report(signed(self.signer, [self.signer.der], unsigned=[inside])).verdict, "refused")
+
+    def test_a_part_that_isnt_read(self):
+        """Wherever reading fails, the file is refused with a sentence."""
+        with patch("program_check.check.describe", side_effect=NotRead("an element is cut off")):
+            report = self.report(signed(self.signer, [self.signer.der]))
+        self.assertEqual((report.verdict, report.status, report.root), ("refused", 1, None))
+        self.assertIn("a part that isn't read here: an element is cut off", report.sentence)
+
+    def test_a_long_digest(self):
+        """A signed digest of a million octets is no digest, and isn't shown whole."""
+        report = self.report(with_table(portable_executable(), entry(self.signer, [self.signer.der], bytes(1_000_000))))
+        self.assertEqual((report.verdict, report.digest["signed"]), ("refused", "00" * 64))
+        self.assertLess(len(json.dumps(report.json())), 40_000)
+
+    def test_more_certificates_than_are_read(self):
+        """Nothing is said of whether such a signature is good, since none is looked at."""
+        report = self.report(signed(self.signer, [self.signer.der, *[b"\x30\0"] * 10_001]))
+        self.assertEqual((report.verdict, report.signer), ("refused", None))
+        self.assertNotIn("forged", report.sentence + report.next)
 
     def test_serial_numbers(self):
         """Twenty octets at most (RFC 5280 4.1.2.2), of a longer one how many more."""
