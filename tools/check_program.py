@@ -1,41 +1,44 @@
 #!/usr/bin/env python3
 """Say who signed a program of Windows, and whether a root that you trust vouches for that.
 
-    python3 tools/check_program.py PROGRAM [--root ROOT ..] [--at DATE] [--json]
+    python3 tools/check_program.py [--root FILE ..] [--at DATE] [--json] [--] PROGRAM
 
 PROGRAM is a signed program, as .exe, .dll, .sys and .efi files are.  Printed are its
 digest, its signer, the path of certificates from the signer to a root, its time stamps,
 what the proved programs answer, and the verdict in one sentence.
 
-  --root ROOT ..        files with certificates in DER or PEM that are trusted, in place of
-                        the system's; further files follow where PROGRAM comes first
-  --stamp-root ROOT ..  those that are trusted for time stamps, in place of the roots above
+  --root FILE           a file with certificates in DER or PEM that are trusted, in place of
+                        the system's; the option may be there several times
+  --stamp-root FILE     those that are trusted for time stamps, in place of the roots above;
+                        likewise
   --at DATE             the moment at which certificates have to be valid, in UTC, as
-                        2025-01-31 or 2025-01-31T23:59:59; without it the time of a stamp
-                        that openssl verifies, else now
+                        2025-01-31 or 2025-01-31T23:59:59Z, or without the Z; without the
+                        option the time of a stamp that openssl verifies, else now
   --json                one JSON object on one line in place of the text
   --digest HASH         PROGRAM is the signature of a program with this digest
   --programs FOLDER     where picky, picky_pe, picky_ask and picky_anchor are; else in crates/NAME/out,
                         else on the PATH
   --try                 run them from their sources by `rt try`, where they aren't built: it
                         takes some minutes, and nothing is proved
+  --                    what follows is PROGRAM, whatever it begins with
+  --help                as the sole word: this text
 
 Two proved programs decide: `picky_pe` whether the signature is one over this file by this
-signer, `picky_anchor` whether a path leads from its certificate to a root.  openssl (3.0 or
-later) verifies the signatures and the stamps.  docs/MANUAL.md says what is proved.
+signer, `picky_anchor` whether a path leads from its certificate to a root.  Python's package
+cryptography verifies the signatures, and openssl (3.0 or later) the stamps.  docs/MANUAL.md
+says what is proved.
 
 The exit status is 0 if both accept, 1 if one refuses, or if they disagree; 2 if the words
-are wrong or a program is missing, 3 if one takes a line of the table for a bad one, 4 if a
-file can't be read, 5 if the answer can't be written, 6 if PROGRAM is longer than 16 MiB, 7
-if there isn't enough memory.
+are wrong, a program is missing, can't start or is ended before it answers; 3 if one takes a
+line of the table for a bad one, 4 if a file can't be read or isn't a regular file, 5 if the
+answer can't be written, 6 if PROGRAM is longer than 16 MiB, 7 if there isn't enough memory.
 """
 
 import json
 import re
 import sys
-from dataclasses import dataclass, field
+from argparse import ArgumentTypeError
 from datetime import datetime
-from shutil import which
 from time import monotonic
 
 from common import command
@@ -44,86 +47,47 @@ from program_check.check import Question, check
 from program_check.programs import Programs, Tried
 from program_check.report import Report
 
-DATE = re.compile(r"\d{4}-\d\d-\d\d(T\d\d:\d\d:\d\d)?")
+DATE = re.compile(r"[0-9]{4}-[0-9]{2}-[0-9]{2}(T[0-9]{2}:[0-9]{2}:[0-9]{2}Z?)?")
 DIGEST = re.compile(r"(?:[0-9A-Fa-f]{2}){1,64}")
-CANT_READ, CANT_WRITE = 4, 5
+CANT_READ, CANT_WRITE, NO_MEMORY = 4, 5, 7
 PATIENCE = 1.0
+TRIED = "--try runs the programs from their sources by `rt try`: it takes some minutes, and nothing is proved"
 
 
-class Wrong(Exception):
-    """Why the words aren't those of a call."""
-
-
-def is_date(word):
-    """Whether a word is a day or a second that exists; of the year 0000 the programs say."""
-    if not DATE.fullmatch(word):
-        return False
+def date(word):
+    """A day or a second that exists, as the programs take it; of the year 0000 they say."""
+    found = word.removesuffix("Z")
     try:
-        datetime.fromisoformat(word.replace("0000-", "0400-", 1) if word.startswith("0000-") else word)
-    except ValueError:
-        return False
-    return True
+        if not DATE.fullmatch(word):
+            raise ValueError
+        datetime.fromisoformat(found.replace("0000-", "0400-", 1) if found.startswith("0000-") else found)
+    except ValueError as refusal:
+        raise ArgumentTypeError("it isn't a date as 2025-01-31 or 2025-01-31T23:59:59") from refusal
+    return found
 
 
-@dataclass
-class Words:
+def digest(word):
+    """A digest in hexadecimal."""
+    if not DIGEST.fullmatch(word):
+        raise ArgumentTypeError("it isn't a digest in hexadecimal")
+    return word
+
+
+# The options, and how argparse takes them.
+OPTIONS = {
+    "--root": {"action": "append", "metavar": "FILE"}, "--stamp-root": {"action": "append", "metavar": "FILE"},
+    "--at": {"action": command.Once, "type": date}, "--json": {"action": "store_true"}, "--digest": {"action": command.Once, "type": digest},
+    "--programs": {"action": command.Once}, "--try": {"action": "store_true", "dest": "tried"},
+}
+
+
+def words_of(arguments):
     """What the words of the command line ask for."""
-
-    program: object = None
-    root: list = field(default_factory=list)
-    stamp_root: list = field(default_factory=list)
-    at: object = None
-    digest: object = None
-    programs: object = None
-    json: bool = False
-    tried: bool = False
-
-    @classmethod
-    def of(cls, arguments):
-        found, left = cls(), list(arguments)
-        while left:
-            word = left.pop(0)
-            if word in LISTS:
-                getattr(found, LISTS[word]).extend(found.taken(word, left))
-            elif word in VALUES:
-                found.set(word, *cls.first(word, left))
-            elif word in FLAGS:
-                setattr(found, FLAGS[word], True)
-            elif word.startswith("--"):
-                raise Wrong(f"{word} is no option")
-            elif found.program is not None:
-                raise Wrong(f"one PROGRAM is checked at a time, and '{word}' is a second one")
-            else:
-                found.program = word
-        if found.program is None:
-            raise Wrong("PROGRAM is missing")
-        return found
-
-    @staticmethod
-    def first(option, left):
-        if not left or left[0].startswith("--"):
-            raise Wrong(f"{option} needs a word")
-        return [left.pop(0)]
-
-    def taken(self, option, left):
-        """The files behind an option: one, and further ones where PROGRAM is known."""
-        files = self.first(option, left)
-        while self.program is not None and left and not left[0].startswith("--"):
-            files.append(left.pop(0))
-        return files
-
-    def set(self, option, word):
-        name, form = VALUES[option]
-        if getattr(self, name) is not None:
-            raise Wrong(f"{option} comes twice")
-        if form and not form(word):
-            raise Wrong(f"'{word}' isn't what {option} takes")
-        setattr(self, name, word)
-
-
-LISTS = {"--root": "root", "--stamp-root": "stamp_root"}
-FLAGS = {"--json": "json", "--try": "tried"}
-VALUES = {"--at": ("at", is_date), "--digest": ("digest", DIGEST.fullmatch), "--programs": ("programs", None)}
+    parser = command.Parser()
+    for option, how in OPTIONS.items():
+        parser.add_argument(option, **how)
+    parser.add_argument("program", metavar="PROGRAM")
+    return parser.parse_args(arguments)
 
 
 class Progress:
@@ -139,8 +103,6 @@ class Progress:
 
 def question_of(words):
     """What is asked; OSError and roots.Unreadable where a file of roots can't be read."""
-    if which("openssl") is None:
-        raise command.Refusal("openssl isn't there")
     trusted = roots.from_files(words.root) if words.root else roots.of_system()
     stamp_roots = roots.from_files(words.stamp_root) if words.stamp_root else trusted
     programs = Tried() if words.tried else Programs(words.programs)
@@ -151,14 +113,13 @@ def reported(words):
     """The report on what the words ask for."""
     try:
         return check(question_of(words))
-    except (OSError, roots.Unreadable) as refusal:
-        return Report(words.program).not_checked(CANT_READ, command.sentence(refusal))
+    except (OSError, roots.Unreadable, command.NotAFile) as refusal:
+        status, why = CANT_READ, command.sentence(refusal)
     except command.Refusal as refusal:
-        return Report(words.program).not_checked(command.CANT, command.sentence(refusal))
+        status, why = command.CANT, command.sentence(refusal)
     except MemoryError:
-        return Report(words.program).not_checked(7, "there isn't enough memory")
-    except RecursionError:
-        return Report(words.program).not_checked(command.CANT, "the file is nested too deeply to be shown")
+        status, why = NO_MEMORY, "there isn't enough memory"
+    return Report(text.clean(words.program)).not_checked(status, why)
 
 
 def write(report, as_json):
@@ -166,18 +127,19 @@ def write(report, as_json):
     if as_json:
         print(json.dumps(report.json(), ensure_ascii=True))
     elif report.verdict == "not checked":
-        print(text.visible(f"check_program.py: {report.file}: {report.sentence}"), file=sys.stderr)
+        # What can't be read is named by the sentence itself.
+        named = "" if report.status == CANT_READ else f"{report.file}: "
+        print(text.visible(f"check_program.py: {named}{report.sentence}"), file=sys.stderr)
     else:
         print("\n".join(report.lines()))
     sys.stdout.flush()
 
 
+@command.script(__doc__)
 def main(arguments):
-    try:
-        words = Words.of(arguments)
-    except Wrong as refusal:
-        print(f"check_program.py: {refusal}", file=sys.stderr)
-        return command.usage(__doc__)
+    words = words_of(arguments)
+    if words.tried:
+        print(f"check_program.py: {TRIED} ..", file=sys.stderr, flush=True)
     report = reported(words)
     try:
         write(report, words.json)
@@ -190,6 +152,4 @@ def main(arguments):
 
 
 if __name__ == "__main__":
-    # A name may have characters that the output's encoding hasn't.
-    sys.stdout.reconfigure(errors="backslashreplace")
-    command.run(main, __doc__)
+    command.run(main, __doc__, CANT_WRITE)

@@ -16,28 +16,11 @@ attributes, so each is as good as before, and a table for SIG is one for OUT.
 import sys
 from pathlib import Path
 
-from common import command
-from judges.asked_signatures import MICROSOFT_COUNTERSIGNATURE, UNFORMED, NotASignatureFile, signed_data_in
-from judges.chain_reader import Read, Refused
-from judges.der_reader import Constructed, read_first, write
-from judges.value_reader import dotted
-
-CERTIFICATES, UNSIGNED = 0xA0, 0xA1
-
-
-def replaced(element, place, kid):
-    """An element with another kid in the place of one."""
-    kids = list(element.kids)
-    kids[place] = kid
-    return Constructed(element.tag, tuple(kids))
-
-
-def read_of(member):
-    """A member of signed data as a certificate, None where it is none."""
-    try:
-        return Read.of(write(member))
-    except Refused:
-        return None
+from common import command, der, signed_data
+from common.der import NOT_READ
+from common.shown import clean
+from common.signed_data import Fields, NotASignatureFile, SignerFields
+from program_check.certificate import certificate_in
 
 
 class Left:
@@ -45,7 +28,7 @@ class Left:
 
     def __init__(self, members):
         self.members = dict(enumerate(members))
-        self.certificates = {place: read for place, member in enumerate(members) if (read := read_of(member))}
+        self.certificates = {place: read for place, member in enumerate(members) if (read := certificate_in(member))}
         self.named = {}
         for place, read in self.certificates.items():
             for word in self.words_of(read):
@@ -53,7 +36,7 @@ class Left:
 
     @staticmethod
     def words_of(read):
-        return read.parts.subject, (read.parts.subject, read.subject_key)
+        return read.subject_name, (read.subject_name, read.subject_key)
 
     def take(self, place):
         """The member at a place, which is left no longer."""
@@ -63,73 +46,82 @@ class Left:
 
     def issuer_of(self, child):
         """The place of the first with the name of the issuer and, where one has it, the key that the child names."""
-        by_key = self.named.get((child.parts.issuer, child.authority_key))
-        return next(iter(by_key or self.named.get(child.parts.issuer, ())), None)
+        by_key = self.named.get((child.issuer_name, child.authority_key))
+        return next(iter(by_key or self.named.get(child.issuer_name, ())), None)
+
+
+def signers_place(left, signer):
+    """The place of the first certificate that a signer names by issuer and serial number, None where there is none."""
+    if signer.identifier.tag != der.SEQUENCE:
+        return None
+    named = signer.issuer_and_serial()
+    return next((place for place, read in left.certificates.items() if read.is_named(*named)), None)
 
 
 def ordered(members, signer):
     """The members, the certificate of the signer and its issuers in front."""
-    left = Left(members)
-    named = signer.kids[1]
-    found = [place for place, read in left.certificates.items() if named.tag == 0x30
-             and (read.parts.issuer, read.parts.serial) == (write(named.kids[0]), named.kids[1].contents)]
-    walk = []
-    place = found[0] if found else None
+    left, walk = Left(members), []
+    place = signers_place(left, signer)
     while place is not None:
         walk.append(left.take(place))
         place = left.issuer_of(left.certificates[place])
-    return (*walk, *left.members.values())
+    return [*walk, *left.members.values()]
 
 
-def with_order(content_info):
-    """Signed data with its certificates, and those of a token, in order."""
-    signed = content_info.kids[1].kids[0]
-    signers = signed.kids[-1]
-    place = next((number for number, field in enumerate(signed.kids[3:-1], 3) if field.tag == CERTIFICATES), None)
-    if not signers.kids:
-        return content_info
-    if place is not None:
-        members = ordered(signed.kids[place].kids, signers.kids[0])
-        signed = replaced(signed, place, Constructed(CERTIFICATES, members))
-    signed = replaced(signed, len(signed.kids) - 1, replaced(signers, 0, with_ordered_token(signers.kids[0])))
-    return replaced(content_info, 1, replaced(content_info.kids[1], 0, signed))
+def token_of(signer):
+    """The token that the first unsigned attribute of a signer holds, None where it holds none."""
+    attribute = next(signer.unsigned.walk(), None) if signer.unsigned else None
+    if attribute is None:
+        return None
+    kind, values = attribute.kids(2)
+    return next(values.walk(), None) if der.oid(kind) == signed_data.TOKEN else None
 
 
-def with_ordered_token(signer):
-    """A signer, the certificates of whose token are in order."""
-    unsigned = signer.kids[-1]
-    if unsigned.tag != UNSIGNED or not unsigned.kids:
-        return signer
-    kind, values = unsigned.kids[0].kids
-    if dotted(kind.contents) != MICROSOFT_COUNTERSIGNATURE or not values.kids:
-        return signer
-    token = replaced(values, 0, with_order(values.kids[0]))
-    return replaced(signer, len(signer.kids) - 1, replaced(unsigned, 0, replaced(unsigned.kids[0], 1, token)))
+def reordered(content_info):
+    """Where the certificates of signed data are, and those of a token, each with their octets in order."""
+    fields = Fields.of(content_info)
+    if (first := fields.first_signer()) is None:
+        return
+    signer, held = SignerFields.of(first), fields.certificates
+    if held is not None:
+        yield held.begin, held.end, b"".join(one.encoding for one in ordered(held.kids(), signer))
+    token = token_of(signer)
+    if token is not None:
+        yield from reordered_token(token)
+
+
+def reordered_token(token):
+    """The same of a token alone, whose own signer has no token that counts."""
+    fields = Fields.of(token)
+    first, held = fields.first_signer(), fields.certificates
+    if first is not None and held is not None:
+        yield held.begin, held.end, b"".join(one.encoding for one in ordered(held.kids(), SignerFields.of(first)))
 
 
 def with_ordered_bag(octets):
     """The octets of a signature file, in order."""
-    signed_data_in(octets)
-    element, length = read_first(octets[8:])
+    content_info = signed_data.content_info_in(octets)
     try:
-        return octets[:8] + write(with_order(element)) + octets[8 + length:]
-    except UNFORMED as error:
-        raise NotASignatureFile("its signer is none of signed data") from error
+        for begin, end, members in reordered(content_info):
+            octets = octets[:begin] + members + octets[end:]
+    except NOT_READ as refusal:
+        raise NotASignatureFile("its certificate isn't signed data, or its signer is none of signed data") from refusal
+    return octets
 
 
+@command.script(__doc__)
 def main(arguments):
-    if arguments[:1] in (["--help"], ["-h"]):
-        print(__doc__.strip())
-        return 0
-    if len(arguments) != 2:
-        return command.usage(__doc__)
+    parser = command.Parser()
+    parser.add_argument("sig", metavar="SIG")
+    parser.add_argument("out", metavar="OUT")
+    words = parser.parse_args(arguments)
     try:
-        Path(arguments[1]).write_bytes(with_ordered_bag(Path(arguments[0]).read_bytes()))
-    except OSError as refusal:
+        Path(words.out).write_bytes(with_ordered_bag(command.read_file(words.sig)))
+    except (OSError, command.Refusal) as refusal:
         print(f"order_bag.py: {command.sentence(refusal)}", file=sys.stderr)
         return 1
     except NotASignatureFile as refusal:
-        print(f"order_bag.py: {arguments[0]}: {refusal}", file=sys.stderr)
+        print(f"order_bag.py: {clean(words.sig)}: {refusal}", file=sys.stderr)
         return 1
     return 0
 

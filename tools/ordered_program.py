@@ -14,7 +14,8 @@ import sys
 from pathlib import Path
 
 from common import command
-from judges.asked_signatures import NotASignatureFile
+from common.shown import clean
+from common.signed_data import NotASignatureFile
 from order_bag import with_ordered_bag
 from signed_program import NotSigned, parts, signature
 
@@ -25,22 +26,22 @@ def with_entry(program, entry):
     return program[:at] + entry + program[at + len(entry):]
 
 
+@command.script(__doc__)
 def main(arguments):
-    if arguments[:1] in (["--help"], ["-h"]):
-        print(__doc__.strip())
-        return 0
-    if len(arguments) != 3:
-        return command.usage(__doc__)
+    parser = command.Parser()
+    for name in "program", "out", "sig":
+        parser.add_argument(name, metavar=name.upper())
+    words = parser.parse_args(arguments)
     try:
-        program = Path(arguments[0]).read_bytes()
+        program = command.read_file(words.program)
         entry = with_ordered_bag(signature(program))
-        Path(arguments[1]).write_bytes(with_entry(program, entry))
-        Path(arguments[2]).write_bytes(entry)
-    except OSError as refusal:
+        Path(words.out).write_bytes(with_entry(program, entry))
+        Path(words.sig).write_bytes(entry)
+    except (OSError, command.Refusal) as refusal:
         print(f"ordered_program.py: {command.sentence(refusal)}", file=sys.stderr)
         return 1
     except (NotSigned, NotASignatureFile) as refusal:
-        print(f"ordered_program.py: {arguments[0]}: {refusal}", file=sys.stderr)
+        print(f"ordered_program.py: {clean(words.program)}: {refusal}", file=sys.stderr)
         return 1
     return 0
 

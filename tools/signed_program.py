@@ -18,14 +18,14 @@ from hashlib import new
 from pathlib import Path
 from struct import error, unpack_from
 
-from common import command
-from judges.asked_signatures import DIGESTS, UNFORMED, NotASignatureFile, content_info_in
-from judges.value_reader import dotted
+from common import command, der, signed_data
+from common.der import NOT_READ
+from common.shown import clean
+from common.signed_data import DIGESTS, INDIRECT_DATA, NotASignatureFile
 
 CHECKSUM = 64
 # The place of the certificate table, by the magic number of the optional header: after its fixed fields, the fifth pair.
 TABLE_PLACE = {0x10B: 96 + 4 * 8, 0x20B: 112 + 4 * 8}
-INDIRECT_DATA = "1.3.6.1.4.1.311.2.1.4"
 
 
 class NotSigned(Exception):
@@ -60,13 +60,16 @@ def signature(program):
 def named_digest(entry):
     """The digest algorithm of the program that the signature in an entry names."""
     try:
-        content = content_info_in(entry)[0].kids[1].kids[0].kids[2]
-        if dotted(content.kids[0].contents) != INDIRECT_DATA:
+        fields = signed_data.fields_in(entry)
+        if der.oid(fields.content_type) != INDIRECT_DATA:
             raise NotSigned("its signature is of no program; give DIGEST")
-        named = dotted(content.kids[1].kids[0].kids[1].kids[0].kids[0].contents)
+        if fields.content is None:
+            raise NotSigned("its signature names no digest algorithm; give DIGEST")
+        algorithm, _ = fields.content.kids(2)[1].kids(2)
+        named = der.oid(algorithm.kids(2)[0])
     except NotASignatureFile as refusal:
         raise NotSigned(f"its signature isn't read, {refusal}; give DIGEST") from refusal
-    except UNFORMED as refusal:
+    except NOT_READ as refusal:
         raise NotSigned("its signature names no digest algorithm; give DIGEST") from refusal
     if named not in DIGESTS:
         raise NotSigned(f"its signature names {named}, a digest algorithm that isn't known here; give DIGEST")
@@ -80,29 +83,34 @@ def image_digest(program, digest):
     hashed = new(digest)
     if not hashed.digest_size:
         raise ValueError(f"{digest} has digests of any length")
-    hashed.update(program[:optional + CHECKSUM])
-    hashed.update(program[optional + CHECKSUM + 4:optional + place])
-    hashed.update(program[optional + place + 8:end])
-    hashed.update(program[end + length:])
+    held = memoryview(program)
+    hashed.update(held[:optional + CHECKSUM])
+    hashed.update(held[optional + CHECKSUM + 4:optional + place])
+    hashed.update(held[optional + place + 8:end])
+    hashed.update(held[end + length:])
     return hashed.hexdigest()
 
 
+@command.script(__doc__)
 def main(arguments):
-    if arguments[:1] in (["--help"], ["-h"]):
-        print(__doc__.strip())
-        return 0
-    if len(arguments) not in (2, 3):
-        return command.usage(__doc__)
+    parser = command.Parser()
+    parser.add_argument("program", metavar="PROGRAM")
+    parser.add_argument("sig", metavar="SIG")
+    parser.add_argument("digest", metavar="DIGEST", nargs="?")
+    words = parser.parse_args(arguments)
     try:
-        program = Path(arguments[0]).read_bytes()
+        program = command.read_file(words.program)
         entry = signature(program)
-        digest = image_digest(program, *arguments[2:] or [named_digest(entry)])
-        Path(arguments[1]).write_bytes(entry)
-    except OSError as refusal:
+        digest = image_digest(program, words.digest or named_digest(entry))
+        Path(words.sig).write_bytes(entry)
+    except (OSError, command.Refusal) as refusal:
         print(f"signed_program.py: {command.sentence(refusal)}", file=sys.stderr)
         return 1
-    except (NotSigned, ValueError) as refusal:
-        print(f"signed_program.py: {arguments[0]}: {refusal}", file=sys.stderr)
+    except NotSigned as refusal:
+        print(f"signed_program.py: {clean(words.program)}: {refusal}", file=sys.stderr)
+        return 1
+    except ValueError as refusal:
+        print(f"signed_program.py: {clean(words.program)}: {clean(refusal)}", file=sys.stderr)
         return 1
     print(digest)
     return 0

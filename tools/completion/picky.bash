@@ -75,6 +75,10 @@ _picky_ca() {
 }
 
 _check_program() {
+    if [[ " ${COMP_WORDS[*]:1:COMP_CWORD-1} " == *" -- "* ]]; then
+        _picky_files "" "$2"
+        return
+    fi
     case $3 in
         --at) _picky_words "$2" "$(date -u +%Y-%m-%d)" ;;
         --digest) COMPREPLY=() ;;
@@ -92,9 +96,21 @@ _check_program() {
     esac
 }
 
+# Documents call the script by `python3 tools/check_program.py`; of any other script the words are files.
+_picky_python() {
+    if ((COMP_CWORD > 1)) && [[ ${COMP_WORDS[1]##*/} == check_program.py ]]; then
+        COMP_WORDS=("${COMP_WORDS[@]:1}")
+        ((COMP_CWORD -= 1))
+        _check_program check_program.py "$2" "$3"
+    else
+        _picky_files "" "$2"
+    fi
+}
+
 complete -F _picky picky
 complete -F _picky_pe picky_pe
 complete -F _picky_anchor picky_anchor
 complete -F _picky_ask picky_ask
 complete -F _picky_ca picky_ca
 complete -F _check_program check_program.py
+complete -p python3 &> /dev/null || complete -F _picky_python python3

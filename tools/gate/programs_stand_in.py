@@ -76,6 +76,8 @@ def anchored_line(anchors, checked, pool, date, table):
 class StandIn(Programs):
     """The programs, by the reference implementations."""
 
+    questions_of = Programs.in_memory
+
     def __init__(self):
         super().__init__()
         self.asked = []

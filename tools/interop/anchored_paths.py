@@ -25,7 +25,6 @@ It takes openssl (3.0 or later), Go and ca-certificates.
 
 import argparse
 import ssl
-import subprocess
 import sys
 from collections import Counter
 from pathlib import Path as Folder
@@ -38,6 +37,7 @@ sys.path.insert(0, str(Folder(__file__).resolve().parents[1]))
 from cases import drawn_anchors
 from cases.anchor_rows import CODE, NOW
 from common import command
+from common.calls import called
 from interop.anchor_making import Maker, roots_world
 from judges import asked_signatures
 from judges import anchor_search
@@ -142,13 +142,13 @@ class Programs:
 
     def __init__(self, picky_anchor, folder, cases):
         self.picky_anchor, self.go, self.files = picky_anchor, folder / "go", Files(folder, cases)
-        subprocess.run(["go", "build", "-o", self.go, HERE / "anchored_paths.go"], check=True, cwd=folder)
+        called(["go", "build", "-o", self.go, HERE / "anchored_paths.go"], seconds=600, cwd=folder).check_returncode()
 
     def line(self, case):
         """What `picky_anchor` prints."""
         certificates = [f"{number}.der" for number in self.files.numbers([*case.anchors, case.checked, *case.pool])]
         words = self.picky_anchor, "table.txt", "code", DATE, str(len(case.anchors)), *certificates
-        done = subprocess.run(words, cwd=self.files.folder, capture_output=True, check=False)
+        done = called(words, cwd=self.files.folder)
         if done.returncode not in (0, 1):
             raise command.Refusal(f"{self.picky_anchor} ends with status {done.returncode}")
         return done.stdout.decode().strip()
@@ -157,15 +157,16 @@ class Programs:
         checked, pool, trusted = (self.files.in_pem(name, part) for name, part in zip(("checked.pem", "pool.pem", "trusted.pem"), case.parts()))
         given = ("-untrusted", pool) if case.pool else ()
         words = "openssl", "verify", "-partial_chain", "-attime", SECONDS, "-trusted", trusted, *given, checked
-        done = subprocess.run(words, capture_output=True, check=False)
+        done = called(words)
         errors = [line for line in done.stderr.decode().splitlines() if line.startswith("error ")]
         return Result(done.returncode == 0, None, next(iter(errors), ""))
 
     def of_go(self, cases):
         rows = [" ".join(",".join(self.files.numbers(part)) or "-" for part in case.parts()) for case in cases]
         words = self.go, self.files.folder, SECONDS
-        done = subprocess.run(words, input="".join(f"{row}\n" for row in rows), capture_output=True, check=True, text=True)
-        lines = done.stdout.splitlines()
+        done = called(words, "".join(f"{row}\n" for row in rows).encode(), seconds=3600)
+        done.check_returncode()
+        lines = done.stdout.decode().splitlines()
         if len(lines) != len(cases):
             raise command.Refusal(f"Go prints {len(lines)} lines of {len(cases)} rows")
         return [Result(True, int(line.split()[1])) if line.startswith("found ") else Result(False, None, line) for line in lines]

@@ -20,7 +20,6 @@ significant digit first, with bit 8 set in all octets but the last.  Where
 """
 
 import shutil
-import subprocess
 import sys
 import tempfile
 from pathlib import Path
@@ -28,6 +27,7 @@ from pathlib import Path
 sys.path.insert(0, str(Path(__file__).resolve().parents[1]))
 
 from common import command, folders
+from common.calls import called
 
 CRATE = folders.CRATES / "asn1_types"
 
@@ -229,9 +229,7 @@ def openssl(text):
     if shutil.which("openssl") is None:
         return None
     with tempfile.NamedTemporaryFile() as out:
-        subprocess.run(
-            ["openssl", "asn1parse", "-genstr", f"OID:{text}", "-noout", "-out", out.name],
-            check=True, capture_output=True)
+        called(["openssl", "asn1parse", "-genstr", f"OID:{text}", "-noout", "-out", out.name]).check_returncode()
         return out.read()
 
 

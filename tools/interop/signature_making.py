@@ -4,13 +4,13 @@ Files of one run lie in the folder that is given.
 """
 
 import struct
-import subprocess
 from base64 import b64decode, encodebytes
 from contextlib import contextmanager
 from http.server import BaseHTTPRequestHandler, HTTPServer
 from threading import Thread
 
 from cases.first_path import element, identifier, integer, octet_string, sequence, set_of, utc_time
+from common.calls import called
 from common.openssl import openssl
 
 KEYS = {
@@ -130,7 +130,7 @@ class Signers:
         return taken.read_bytes()
 
     def osslsigncode(self, *words):
-        run = subprocess.run(["osslsigncode", *map(str, words)], capture_output=True)
+        run = called(["osslsigncode", *words])
         if run.returncode != 0:
             raise RuntimeError(f"osslsigncode {words}: {run.stdout.decode()}{run.stderr.decode()}")
 

@@ -16,7 +16,6 @@ It takes openssl (3.0 or later), osslsigncode (2.6 or later) and sbsigntool.
 """
 
 import re
-import subprocess
 import sys
 from collections import Counter
 from datetime import datetime, timezone
@@ -28,6 +27,7 @@ sys.path.insert(0, str(Path(__file__).resolve().parents[1]))
 
 import signed_program
 from common import command
+from common.calls import called
 from golden.compare_basic import printed
 from interop import chains
 from interop.signed_images import PROGRAMS, stored
@@ -118,7 +118,7 @@ def signed(program, steps, address, folder):
     (folder / "program").write_bytes(program)
     for how in steps:
         (folder / "signed").unlink(missing_ok=True)
-        done = subprocess.run([str(word) for word in step(how, address, folder)], capture_output=True)
+        done = called(step(how, address, folder))
         if done.returncode != 0 or not (folder / "signed").is_file():
             return None
         (folder / "program").write_bytes((folder / "signed").read_bytes())
@@ -172,7 +172,7 @@ def by_osslsigncode(file, folder):
 
 def by_sbverify(file, folder):
     """Whether sbverify accepts."""
-    return subprocess.run(["sbverify", "--cert", folder / "root.pem", file], capture_output=True).returncode == 0
+    return called(["sbverify", "--cert", folder / "root.pem", file]).returncode == 0
 
 
 def digest_of(octets):

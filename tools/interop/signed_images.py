@@ -15,7 +15,6 @@ that something differs.
 
 import re
 import struct
-import subprocess
 import sys
 from base64 import b64decode, b64encode
 from pathlib import Path
@@ -25,6 +24,7 @@ from typing import NamedTuple
 sys.path.insert(0, str(Path(__file__).resolve().parents[1]))
 
 from common import command, folders
+from common.calls import called
 from common.openssl import openssl
 from interop.signature_making import portable_executable
 from judges.pe_judge import bound, places, HASHES
@@ -65,7 +65,7 @@ class SignedImage(NamedTuple):
 
 
 def osslsigncode(*words):
-    return subprocess.run(["osslsigncode", *map(str, words)], capture_output=True)
+    return called(["osslsigncode", *words])
 
 
 def computed(file, folder):

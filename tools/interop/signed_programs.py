@@ -26,7 +26,6 @@ and its table: the files beside the stored run of `picky`, for which `check` is 
 `--program` that program and the table, for the stored run of `picky_pe`.
 """
 
-import subprocess
 import sys
 from base64 import b64decode, b64encode
 from calendar import timegm
@@ -44,6 +43,7 @@ sys.path.insert(0, str(Path(__file__).resolve().parents[1]))
 import signed_program
 from cases.check_making import File
 from common import command
+from common.calls import called
 from common import folders
 from common.openssl import openssl
 from golden.stored_run import write_stored_run
@@ -149,7 +149,7 @@ def unix(date):
 
 
 def osslsigncode(*words):
-    return subprocess.run(["osslsigncode", *map(str, words)], capture_output=True)
+    return called(["osslsigncode", *words])
 
 
 @contextmanager

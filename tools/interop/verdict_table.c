@@ -52,24 +52,30 @@ static const struct algorithm {
     {"ed25519", "ed25519", NULL, 0, 0, "1000000000000000000000000000000014def9dea2f79cd65812631a5cf5d3ed"},
 };
 
-static void stop(const char *why)
+static void end(int status, const char *why)
 {
     fprintf(stderr, "verdict_table: %s\n", why);
-    exit(1);
+    exit(status);
+}
+
+/* Ends without a table, for what was read. */
+static void stop(const char *why)
+{
+    end(1, why);
 }
 
 /* What libcrypto gave, which is there where there is memory. */
 static void *got(void *given)
 {
     if (!given)
-        stop("out of memory");
+        end(2, "out of memory");
     return given;
 }
 
 static void must(int done)
 {
     if (!done)
-        stop("libcrypto failed");
+        end(2, "libcrypto failed");
 }
 
 /* Questions. */
@@ -481,11 +487,11 @@ int main(void)
     }
     free(line);
     if (ferror(stdin))
-        stop("the questions can't be read");
+        end(2, "the questions can't be read");
     puts("picky-verdicts 2");
     for (size_t i = 0; i < rows_kept; i++)
         printf("%s %s\n", WORDS[rows[i].found], rows[i].text);
     for (size_t i = 0; i < lacking_kept; i++)
         fprintf(stderr, "verdict_table: %s\n", lacking[i]);
-    return fflush(stdout) ? 1 : 0;
+    return fflush(stdout) ? 2 : 0;
 }

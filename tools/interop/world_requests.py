@@ -16,7 +16,6 @@ has openssl judge its signature.  The answers to rows of `issuing_rows` on reque
 come from `value_reader`.
 """
 
-import subprocess
 import sys
 from base64 import b64decode, b64encode
 from pathlib import Path
@@ -25,6 +24,7 @@ from tempfile import TemporaryDirectory
 sys.path.insert(0, str(Path(__file__).resolve().parents[1]))
 
 from common import command
+from common.calls import called
 from common import folders
 from common.openssl import OpensslError, openssl
 from interop.world_certificates import ED25519, ec, rsa
@@ -126,7 +126,7 @@ def openssl_check(octets, fields):
     public = openssl("req", "-inform", "DER", "-noout", "-pubkey", given=octets)
     same("key", write(fields.key), openssl("pkey", "-pubin", "-outform", "DER", given=public))
     same("attributes", len(fields.listed), sum(map(said.count, ("X509v3 Basic Constraints", "challengePassword", "unstructuredName"))))
-    run = subprocess.run(["openssl", "req", "-inform", "DER", "-noout", "-verify"], input=octets, capture_output=True)
+    run = called(["openssl", "req", "-inform", "DER", "-noout", "-verify"], octets)
     same("judged", True, b"verify OK" in run.stderr)
 
 

@@ -43,12 +43,12 @@ def reached_from(first, others):
     """The certificates that issuers' names lead to, nearest first, each once."""
     named = {}
     for one in others:
-        named.setdefault(one.parts.subject, []).append(one)
-    wanted = [first.parts.issuer]
+        named.setdefault(one.subject_name, []).append(one)
+    wanted = [first.issuer_name]
     for name in wanted:
         for one in named.pop(name, ()):
             yield one
-            wanted.append(one.parts.issuer)
+            wanted.append(one.issuer_name)
 
 
 def numbers(words):
@@ -58,7 +58,7 @@ def numbers(words):
 def names_fit(certificate, parents):
     """Whether each certificate names the next one's subject as its issuer."""
     line = [certificate, *parents]
-    return all(child.parts.issuer == parent.parts.subject for child, parent in zip(line, line[1:]))
+    return all(child.issuer_name == parent.subject_name for child, parent in zip(line, line[1:]))
 
 
 def path_in(answer, certificate, pool, roots):

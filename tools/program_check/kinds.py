@@ -1,7 +1,7 @@
 """What a file is that isn't a signed program, and what checks it."""
 
-from judges.der_reader import Malformed, read_first
-from judges.value_reader import Shape, dotted
+from common import der, pem
+from common.der import NOT_READ
 
 OSSLSIGNCODE = "`osslsigncode verify -in FILE`"
 SIGNED_DATA = "1.2.840.113549.1.7.2"
@@ -38,7 +38,7 @@ def of(octets):
     for magic, what, instead in MAGIC:
         if octets.startswith(magic):
             return what, instead
-    if b"-----BEGIN " in octets[:4096]:
+    if pem.begins(octets[:4096]):
         return "a text in PEM", "pass the signed program itself; `openssl pkcs7 -print_certs` shows what is in a signature in PEM"
     if any(mark in octets or mark.decode().encode("utf-16-le") in octets for mark in SCRIPT_MARKS):
         return "a signed script", "`Get-AuthenticodeSignature` of PowerShell or `osslsigncode verify` (2.8 or later) checks it"
@@ -52,10 +52,10 @@ def of(octets):
 def of_der(octets):
     """The same of a file that begins as an element of DER."""
     try:
-        element, _ = read_first(octets)
-        if dotted(element.kids[0].contents) != SIGNED_DATA:
+        kind, held = der.first(octets).kids(2)
+        if der.oid(kind) != SIGNED_DATA:
             return "some structure in DER", "pass the signed program"
-        content = dotted(element.kids[1].kids[0].kids[2].kids[0].contents)
+        content = der.oid(held.kids(1)[0].kids()[2].kids()[0])
         return CONTENTS.get(content, (f"signed data over content of the type {content}", "`openssl cms -cmsout -print -inform DER` shows what is in it"))
-    except (Malformed, Shape, AttributeError, IndexError, ValueError):
+    except NOT_READ:
         return "some structure in DER, perhaps a certificate", "`openssl x509 -inform DER -text -noout` shows a certificate"

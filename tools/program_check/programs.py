@@ -1,28 +1,37 @@
 """The proved programs: where they are, how they are called, and what they may answer.
 
 A program ends with status 0 or 1 and prints one line, `picky_ask` a line a question, or ends with a status that its
-manual names and prints nothing (docs/MANUAL.md, "Exit statuses").  Anything else is a
-`Disagreement`: then nothing is accepted.
+manual names and prints nothing (docs/MANUAL.md, "Exit statuses").  One that can't start, or is ended by a signal, gives
+no answer.  Anything else is a `Disagreement`: then nothing is accepted.
 """
 
 import os
 import re
+import signal
 import subprocess
+from hashlib import sha256
 from pathlib import Path
 from shutil import which
-from tempfile import TemporaryDirectory
+from tempfile import TemporaryDirectory, TemporaryFile
 from typing import NamedTuple
 
 from common import command, folders
+from common.calls import TimedOut, called
+from common.calls import ended as end
+from common.shown import clean
 
 # An index, and a list of some.
 INDEX = "[0-9]{1,9}"
 INDEXES = f"(?:{INDEX}(?:,{INDEX})*)?"
 SIGNED = rf"signer=(?P<signer>{INDEX}) path=(?P<path>{INDEXES}) excuse=(?P<excuse>none|bag|token)\n"
+LINE = r"[a-z0-9-]+(?: [0-9a-f]{64}){3}(?: [0-9a-f]*){3}\n"
+QUESTION = re.compile(LINE.encode("ascii"))
+# More octets than the line of any refusal has.
+MOST_REFUSAL = 65_536
 ACCEPTED = {
     "picky": rf"accepted (?:parents=(?P<parents>{INDEX})\n|{SIGNED})",
     "picky_pe": rf"accepted {SIGNED}",
-    "picky_ask": r"(?:[a-z0-9-]+(?: [0-9a-f]{64}){3}(?: [0-9a-f]*){3}\n)*",
+    "picky_ask": rf"(?:{LINE})*",
     "picky_anchor": rf"anchored pool=(?P<pool>{INDEXES}) anchor=(?P<anchor>{INDEX})\n",
 }
 REFUSED = re.compile(r"refused (?P<name>[A-Za-z0-9]+(?::[A-Za-z0-9]+)*)\n")
@@ -36,11 +45,16 @@ STATUSES = {
     7: "there isn't enough memory",
 }
 SECONDS = 120
-# What `rt try` says last of a program that ended.
+# What `rt try` says last of a program that ended, and of one that it ended.
 TRIED = re.compile(rb"^run=ended status=(\d+) .*proved=no$", re.MULTILINE)
+NO_ANSWER = re.compile(rb"^run=no-answer\b", re.MULTILINE)
+# The most that a run may take, which `rt try` gives 60 seconds unless it is told otherwise, and what compiling may take before.
+TRY_SECONDS, COMPILE_SECONDS = 600, 1200
+BUILD = "build the programs by `.ci/run`, or pass a shorter file"
 # More octets than any line has; questions have at most so many times those of the files that they are about.
 ROOM, LONGER = 65_536, 10
 VARIABLE = "PICKY_PROGRAMS"
+ASK = "picky_ask"
 
 
 class NotThere(command.Refusal):
@@ -77,15 +91,29 @@ class Answer(NamedTuple):
             return found.groupdict()
         if self.status == 1 and REFUSED.fullmatch(self.output):
             return None
+        if self.status < 0:
+            raise NotChecked(command.CANT, f"{self.program} was ended by {name_of_signal(-self.status)} before it answered")
         if self.status in STATUSES and not self.output:
             raise NotChecked(self.status, f"{self.program} ends with status {self.status}: {STATUSES[self.status]}")
-        raise Disagreement(f"{self.program} ends with status {self.status} and prints {self.output[:200]!r}, which is none of its answers")
+        raise Disagreement(f"{self.program} ends with status {self.status} and prints {clean(self.output, 200)}, which is none of its answers")
 
     def refusal(self):
         """The NAME of the refusal; what `accepted` raises comes first."""
         if self.accepted() is not None:
             return None
         return REFUSED.fullmatch(self.output)["name"]
+
+
+def name_of_signal(number):
+    try:
+        return f"the signal {signal.Signals(number).name}"
+    except ValueError:
+        return f"signal {number}"
+class Asked(NamedTuple):
+    """What `picky_ask` answered: its questions one after another, or None and its line where it refuses."""
+
+    lines: object
+    line: str
 
 
 class Programs:
@@ -116,13 +144,56 @@ class Programs:
         """What a program answers to these words."""
         path = self.path(program)
         try:
-            done = subprocess.run([str(path), *map(str, words)], stdin=subprocess.DEVNULL, capture_output=True, timeout=SECONDS)
-        except subprocess.TimeoutExpired as late:
+            done = called([path, *words], seconds=SECONDS)
+        except OSError as refusal:
+            raise NotChecked(command.CANT, f"{program} can't be started: {command.sentence(refusal)}") from refusal
+        except TimedOut as late:
             raise NotChecked(command.CANT, f"{program} didn't end within {SECONDS} seconds") from late
         return Answer(program, shown, done.returncode, done.stdout.decode("utf-8", "replace"))
 
+    def questions_of(self, words):
+        """The questions that `picky_ask` lists, one after another: they may be long, so they stay in a file until they are read."""
+        written = TemporaryFile()
+        status = ended(self.path(ASK), words, written)
+        written.seek(0)
+        if status == 0:
+            return Asked(questions_in(written), "")
+        answer = Answer(ASK, ASK, status, written.read(MOST_REFUSAL).decode("utf-8", "replace"))
+        answer.accepted()
+        return Asked(None, answer.line())
+
+    def in_memory(self, words):
+        """The same where the answer is at hand."""
+        answer = self.run(ASK, words, ASK)
+        if answer.accepted() is None:
+            return Asked(None, answer.line())
+        return Asked(iter(answer.output.splitlines()), "")
+
     def expect(self, calls):
         """Takes note of calls that are likely to be made, each a program and its words; a built program answers at once."""
+
+
+def ended(path, words, output):
+    """The status of a program that writes to a file; NotChecked where it can't start or takes too long."""
+    try:
+        with subprocess.Popen([path, *words], stdin=subprocess.DEVNULL, stdout=output, stderr=subprocess.DEVNULL, start_new_session=True) as process:
+            try:
+                return process.wait(SECONDS)
+            except BaseException:
+                end(process)
+                raise
+    except OSError as refusal:
+        raise NotChecked(command.CANT, f"{path.name} can't be started: {command.sentence(refusal)}") from refusal
+    except subprocess.TimeoutExpired as late:
+        raise NotChecked(command.CANT, f"{path.name} didn't end within {SECONDS} seconds") from late
+
+
+def questions_in(stream):
+    """The lines of a file of questions; a Disagreement where one is none."""
+    for line in stream:
+        if not QUESTION.fullmatch(line):
+            raise Disagreement(f"{ASK} ends with status 0 and prints {clean(line[:200].decode('utf-8', 'replace'), 200)}, which is none of its answers")
+        yield line[:-1].decode("ascii")
 
 
 class Tried(Programs):
@@ -135,6 +206,9 @@ class Tried(Programs):
     quick = False
     progress = "`rt try` compiles the programs and calls them, in some minutes"
 
+    # Answers are kept in memory.
+    questions_of = Programs.in_memory
+
     def __init__(self):
         super().__init__()
         self.answers = {}
@@ -144,7 +218,7 @@ class Tried(Programs):
         with TemporaryDirectory() as folder:
             rows = Path(folder, "rows")
             rows.write_text("".join(f"{row_of(program, words)}\n" for program, words in calls), encoding="ascii")
-            status, output = tried("xgolden_run", [rows])
+            status, output = tried("xgolden_run", ["run", rows])
         answers = answers_in(output)
         if status or len(answers) != len(calls):
             raise NotChecked(command.CANT, "`rt try` in crates/xgolden_run doesn't run the programs to their end")
@@ -157,8 +231,8 @@ class Tried(Programs):
 
 
 def call_of(program, words):
-    """A call, with the octets of its files."""
-    return program, *(word.read_bytes() if isinstance(word, Path) else str(word) for word in words)
+    """A call, with the digests of its files."""
+    return program, *(sha256(word.read_bytes()).digest() if isinstance(word, Path) else str(word) for word in words)
 
 
 def row_of(program, words):
@@ -186,12 +260,16 @@ def tried(crate, words):
     """The status and the output of a program by `rt try`; files are handed to it by their names."""
     files = {word: f"file{place}" for place, word in enumerate(words) if isinstance(word, Path)}
     data = [part for file, name in files.items() for part in ("--data", f"{name}={file}")]
-    called = ["rt", "try", "--steps", "1", *data, "--", *(files.get(word, str(word)) for word in words)]
+    words = ["rt", "try", "--steps", "1", "--seconds", TRY_SECONDS, *data, "--", *(files.get(word, word) for word in words)]
     try:
-        done = subprocess.run(called, cwd=folders.CRATES / crate, stdin=subprocess.DEVNULL, capture_output=True)
+        done = called(words, seconds=COMPILE_SECONDS + TRY_SECONDS, cwd=folders.CRATES / crate)
     except FileNotFoundError as refusal:
         raise NotThere("the command rt of the kit isn't there, which --try needs") from refusal
+    except TimedOut as late:
+        raise NotChecked(command.CANT, f"`rt try` in crates/{crate} didn't end within {COMPILE_SECONDS + TRY_SECONDS} seconds; {BUILD}") from late
     ended = TRIED.search(done.stderr)
+    if NO_ANSWER.search(done.stderr):
+        raise NotChecked(command.CANT, f"`rt try` ended the run in crates/{crate}: it gives one {TRY_SECONDS} seconds and 1 MiB of output, which this file needs more of; {BUILD}")
     if not ended:
         raise NotChecked(command.CANT, f"`rt try` in crates/{crate} doesn't run the program to its end")
     return int(ended[1]), done.stdout.decode("utf-8", "replace")

@@ -5,6 +5,9 @@ from dataclasses import asdict, dataclass, field
 from program_check import text
 
 WIDTH = 12
+UNCHECKED = (
+    "revocation, key usages, the extended key usages of issuers, unknown critical extensions, name constraints, policies; "
+    "whether the program is harmless")
 FORMAT = 1
 
 
@@ -20,6 +23,7 @@ class Report:
     reason: object = None
     next: object = None
     size: object = None
+    file_sha256: object = None
     digest: object = None
     signer: object = None
     signer_verified: bool = False
@@ -72,7 +76,9 @@ class Report:
             yield f"next: {self.next}"
 
     def of_the_file(self):
-        yield row("file", text.clean(self.file) + (f", {text.counted(self.size, 'octet')}" if self.size is not None else ""))
+        yield row("file", self.file + (f", {text.counted(self.size, 'octet')}" if self.size is not None else ""))
+        if self.file_sha256:
+            yield row("file sha256", self.file_sha256)
         if self.digest:
             yield row("digest", f"{self.digest['algorithm']} {self.digest['value']}")
         if self.description and any(self.description.values()):
@@ -102,9 +108,9 @@ class Report:
         if self.root:
             yield row("root", self.root["subject"])
             yield row("", f"sha256 {self.root['sha256']}")
-            yield row("", f"in {text.clean(self.root['file'])}")
+            yield row("", f"in {self.root['file']}")
         elif self.roots:
-            yield row("root", f"none; trusted are {text.clean(self.roots)}")
+            yield row("root", f"none; trusted are {self.roots}")
 
     def of_the_stamps(self):
         for one in self.stamps:
@@ -124,9 +130,9 @@ class Report:
         for number, one in enumerate(self.answers):
             yield row(("proved" if self.proved else "not proved") if number == 0 else "", f"{one['program']}: {one['line'] or 'status ' + str(one['status'])}")
         if self.signatures:
-            yield row("openssl", f"{text.counted(self.signatures['asked'], 'signature')} asked about, {self.signatures['good']} good")
+            yield row("table", f"{text.counted(self.signatures['asked'], 'signature')} asked about, {self.signatures['good']} good")
         if self.verdict == "accepted":
-            yield row("unchecked", "revocation, key usages, name constraints, policies; whether the program is harmless")
+            yield row("unchecked", UNCHECKED)
 
 
 def row(label, value):

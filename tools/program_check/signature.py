@@ -3,221 +3,285 @@
 Nothing here decides: what the proved programs read of the same octets does.
 """
 
-from struct import error, unpack_from
+from functools import cached_property
+from itertools import islice
+from struct import unpack_from
 from typing import NamedTuple
 
-from judges import chain_reader
-from judges.asked_signatures import DIGESTS, MICROSOFT_COUNTERSIGNATURE, UNFORMED, NotASignatureFile, content_info_in
-from judges.der_reader import Constructed, Malformed, Primitive, read_exact, write
-from judges.value_reader import dotted
-from order_bag import replaced
+from common import der, signed_data
+from common.der import NOT_READ, Element
+from common.signed_data import DIGESTS, HEADER, INDIRECT_DATA, Fields, NotASignatureFile, SignerFields
 from program_check import text
-from program_check.certificate import Certificate
+from program_check.certificate import Certificate, certificate_in, row
 
-INDIRECT_DATA = "1.3.6.1.4.1.311.2.1.4"
 COUNTERSIGNATURE = "1.2.840.113549.1.9.6"
 NESTED = "1.3.6.1.4.1.311.2.4.1"
 OPUS_INFO = "1.3.6.1.4.1.311.2.1.12"
 SIGNING_TIME = "1.2.840.113549.1.9.5"
 RSA_PSS = "1.2.840.113549.1.1.10"
-# What a reader here meets where elements are none of the structure that it walks through.
-NOT_READ = (*UNFORMED, Malformed)
+# Each stamp is a call of openssl with all certificates of the signature; signers have one.
+MOST_STAMPS = 8
 
 
 class Signer(NamedTuple):
-    """The fields of a signer (RFC 5652 5.3)."""
+    """A signer, by its fields (RFC 5652 5.3)."""
 
-    identifier: object
+    fields: SignerFields
     digest: str
-    attributes: tuple
     algorithm: str
-    octets: bytes
-    unsigned: tuple
 
     @classmethod
-    def of(cls, element):
-        _, identifier, digest, *rest = element.kids
-        attributes = rest.pop(0).kids if rest[0].tag == 0xA0 else ()
-        unsigned = rest[2].kids if len(rest) > 2 and rest[2].tag == 0xA1 else ()
-        return cls(identifier, dotted(digest.kids[0].contents), attributes, dotted(rest[0].kids[0].contents), rest[1].contents, unsigned)
+    def of(cls, element: Element) -> "Signer":
+        fields = SignerFields.of(element)
+        return cls(fields, *(der.oid(one.expect(der.SEQUENCE).kids(2)[0]) for one in (fields.digest, fields.algorithm)))
 
-    def attribute(self, oid):
+    @property
+    def octets(self) -> bytes:
+        """The signature itself."""
+        return self.fields.signature.contents
+
+    def attribute(self, oid: str) -> Element | None:
         """The first value of a signed attribute, None where there is none."""
-        for kind, values in (one.kids for one in self.attributes):
-            if dotted(kind.contents) == oid and values.kids:
-                return values.kids[0]
-        return None
+        return next(values_of(self.fields.signed, oid), None)
 
-    def values(self, oid):
-        """The values of the unsigned attributes of an OID."""
-        return [value for kind, values in (one.kids for one in self.unsigned) if dotted(kind.contents) == oid for value in values.kids]
+    def values(self, oid: str):
+        """The values of the unsigned attributes of an OID, one after another."""
+        return values_of(self.fields.unsigned, oid)
 
-    def names(self, certificate):
+    def names(self, certificate: Certificate) -> bool:
         """Whether the certificate is named by issuer and serial number."""
         try:
-            issuer, serial = self.identifier.kids
-            return (certificate.parts.issuer, certificate.parts.serial) == (write(issuer), serial.contents)
+            return certificate.is_named(*self.fields.issuer_and_serial())
         except NOT_READ:
             return False
 
+    def row(self, certificate: Certificate) -> str | None:
+        """What a verdict table has of the signature by the key of a certificate, by RSA; None where it can have nothing."""
+        digest, attributes = DIGESTS.get(self.digest), self.fields.signed
+        if digest is None or attributes is None or not certificate.has_rsa_key():
+            return None
+        # RFC 5652 5.4: the attributes count as a SET.
+        message = bytes([der.SET]) + attributes.encoding[1:]
+        return row(f"rsa-{digest}", certificate.key_octets, message, self.octets)
+
+
+def values_of(attributes: Element | None, oid: str):
+    """The values of the attributes of an OID, one after another."""
+    for one in attributes.walk() if attributes else ():
+        kind, values = one.kids(2)
+        if der.oid(kind) == oid:
+            yield from values.expect(der.SET).walk()
+
 
 class SignedData(NamedTuple):
-    """The fields of signed data (RFC 5652 5.1), certificates by their indexes."""
+    """Signed data with its certificates, those that are in the form of one, how many octets the others have, and its first signer."""
 
-    content_type: str
-    content: object
+    fields: Fields
     certificates: list
-    signers: list
+    others: int
+    signer: Signer | None
 
     @classmethod
-    def of(cls, element):
-        fields = element.kids[1].kids[0].kids
-        kind, *content = fields[2].kids
-        held = next((field.kids for field in fields[3:-1] if field.tag == 0xA0), ())
-        return cls(dotted(kind.contents), content[0].kids[0] if content else None, list(certificates_of(held)), [Signer.of(one) for one in fields[-1].kids])
+    def of(cls, element: Element) -> "SignedData":
+        fields = Fields.of(element)
+        signer = fields.first_signer()
+        found, others = [], 0
+        for member in fields.certificates.walk() if fields.certificates else ():
+            one = certificate_in(member)
+            found += [one] if one else []
+            others += 0 if one else member.end - member.at
+        return cls(fields, found, others, Signer.of(signer) if signer else None)
 
-
-def certificates_of(members):
-    """The members that are certificates of a shape that is read here."""
-    for member in members:
-        try:
-            yield Certificate(write(member))
-        except (chain_reader.Refused, ValueError):
-            continue
+    def certificate_of(self, signer: Signer) -> Certificate | None:
+        return next((one for one in self.certificates if signer.names(one)), None)
 
 
 class Signature:
     """A WIN_CERTIFICATE with signed data."""
 
-    def __init__(self, entry):
+    def __init__(self, entry: bytes):
         """NotASignatureFile where the octets are none."""
         self.entry = entry
+        self.element = signed_data.content_info_in(entry)
         try:
-            self.element = content_info_in(entry)[0]
             self.signed = SignedData.of(self.element)
         except NOT_READ as refusal:
             raise NotASignatureFile("its certificate isn't signed data") from refusal
 
     @property
-    def certificates(self):
+    def certificates(self) -> list:
         return self.signed.certificates
 
     @property
-    def signer(self):
+    def signer(self) -> Signer | None:
         """The first signer, None where there is none."""
-        return self.signed.signers[0] if self.signed.signers else None
+        return self.signed.signer
 
-    def signers_index(self):
+    @cached_property
+    def signers_index(self) -> int | None:
         """The index of the certificate that the signer names, None where it isn't there."""
         return next((at for at, one in enumerate(self.certificates) if self.signer and self.signer.names(one)), None)
 
-    def in_order(self, first):
-        """The entry with these certificates in front, in their order: no signature is over the order of certificates (RFC 5652 5.4)."""
-        signed = self.element.kids[1].kids[0]
-        place = next(number for number, field in enumerate(signed.kids[3:-1], 3) if field.tag == 0xA0)
-        members, front = list(signed.kids[place].kids), []
-        for certificate in first:
-            at = next((number for number, member in enumerate(members) if write(member) == certificate.der), None)
-            front += [] if at is None else [members.pop(at)]
-        signed = replaced(signed, place, Constructed(0xA0, (*front, *members)))
-        der = write(replaced(self.element, 1, replaced(self.element.kids[1], 0, signed)))
-        return self.entry[:8] + der + self.entry[8 + len(der):]
+    def behind(self) -> int:
+        """How many octets stand behind its element, within the length that the header states, but for padding with fewer than eight zeros."""
+        length, = unpack_from("<I", self.entry)
+        rest = self.entry[self.element.end:length]
+        return len(rest) if len(rest) >= HEADER or any(rest) else 0
 
-    def stated_digest(self):
+    def in_order(self, first: list) -> bytes:
+        """The entry with these certificates in front, in their order: no signature is over the order of certificates (RFC 5652 5.4)."""
+        held = self.signed.fields.certificates
+        members = [one.encoding for one in held.walk()]
+        front = []
+        for certificate in first:
+            if certificate.der in members:
+                members.remove(certificate.der)
+                front.append(certificate.der)
+        return b"".join((self.entry[:held.begin], *front, *members, self.entry[held.end:]))
+
+    def stated_digest(self) -> tuple | None:
         """The algorithm and the digest of the program in the signed content; None where they aren't read."""
         try:
-            algorithm, digest = self.signed.content.kids[1].kids
-            oid = dotted(algorithm.kids[0].contents)
-            return (DIGESTS.get(oid, oid), digest.contents) if self.signed.content_type == INDIRECT_DATA else None
-        except NOT_READ:
+            if der.oid(self.signed.fields.content_type) != INDIRECT_DATA:
+                return None
+            _, info = self.signed.fields.content.kids(2)
+            algorithm, digest = info.kids(2)
+            oid = der.oid(algorithm.kids(2)[0])
+            return DIGESTS.get(oid, oid), digest.expect(der.OCTETS).contents
+        except (AttributeError, *NOT_READ):
             return None
 
-    def description(self):
+    def description(self) -> tuple:
         """The name of the program and the address that the signer wrote (SpcSpOpusInfo), None each where there is none.
 
         Other fields than these two aren't read.
         """
         found = dict.fromkeys(OPUS_FIELDS)
         try:
-            opus = self.signer.attribute(OPUS_INFO)
-            for field in opus.kids if opus else ():
+            opus = self.signer.attribute(OPUS_INFO) if self.signer else None
+            for field in opus.kids(4) if opus else ():
                 if field.tag in OPUS_FIELDS:
-                    found[field.tag] = OPUS_FIELDS[field.tag](field.kids[0])
+                    found[field.tag] = OPUS_FIELDS[field.tag](field.kids(1)[0])
         except NOT_READ:
             pass
         return tuple(found.values())
 
-    def stated_time(self):
+    def stated_time(self) -> str | None:
         """When the signer says that it signed, None where it doesn't or where that is no time."""
         try:
-            value = self.signer.attribute(SIGNING_TIME)
+            value = self.signer.attribute(SIGNING_TIME) if self.signer else None
             return text.moment_of(value) if value else None
         except NOT_READ:
             return None
 
-    def stamps(self):
-        """The time stamps of the signer: tokens (RFC 3161), then counter-signatures (PKCS #9)."""
-        if self.signer is None:
-            return []
-        found = []
-        for oid, read in (MICROSOFT_COUNTERSIGNATURE, token), (COUNTERSIGNATURE, countersignature):
+    def stamps(self) -> tuple:
+        """The first time stamps of the signer, tokens (RFC 3161) ahead of counter-signatures (PKCS #9), and whether there are more."""
+        found: list = []
+        for oid, read in ((signed_data.TOKEN, token), (COUNTERSIGNATURE, countersignature)) if self.signer else ():
             try:
-                values = self.signer.values(oid)
+                for value in islice(self.signer.values(oid), MOST_STAMPS + 1):
+                    found.append(stamp_of(value, read, self))
             except NOT_READ:
                 found.append(UNREADABLE)
-            else:
-                found += [stamp_of(value, read, self) for value in values[:MOST_STAMPS]]
-        return found[:MOST_STAMPS]
+        return found[:MOST_STAMPS], len(found) > MOST_STAMPS
 
-    def has_more_stamps(self):
-        """Whether there are more stamps than are read."""
+    def nested(self, most: int) -> tuple:
+        """So many of the signatures in attributes of the signer, in words, and how many there are."""
+        found, count = [], 0
         try:
-            return sum(len(self.signer.values(oid)) for oid in (MICROSOFT_COUNTERSIGNATURE, COUNTERSIGNATURE)) > MOST_STAMPS if self.signer else False
+            for value in self.signer.values(NESTED) if self.signer else ():
+                count += 1
+                if count <= most:
+                    found.append(nested_in_words(value))
         except NOT_READ:
-            return False
+            pass
+        return found, count
 
-    def nested(self):
-        """The signatures in attributes of the signer."""
-        try:
-            return [described(value) for value in self.signer.values(NESTED)] if self.signer else []
-        except NOT_READ:
-            return ["one that can't be read"]
+    def unsigned(self):
+        """Where the entry holds octets that nobody signed, beside stamps, nested signatures and certificates: how many, and where."""
+        fields = self.signed.fields
+        if fields.lists is not None and fields.lists.end > fields.lists.begin:
+            yield fields.lists.end - fields.lists.begin, "in place of revocation lists"
+        if self.signed.others:
+            yield self.signed.others, "among the certificates, in none that is read here"
+        known = {signed_data.TOKEN, COUNTERSIGNATURE, NESTED}
+        others = [one for one in self.signer.fields.unsigned.walk() if kind_of(one) not in known] if self.signer and self.signer.fields.unsigned else []
+        if others:
+            yield sum(one.end - one.at for one in others), f"in {text.counted(len(others), 'unsigned attribute')} of a kind that isn't known here"
 
 
-def string(element):
+UNREAD = "one that can't be read"
+
+
+def kind_of(attribute: Element) -> str | None:
+    """The OID of an attribute, None where it has none."""
+    try:
+        return der.oid(attribute.kids(2)[0])
+    except NOT_READ:
+        return None
+
+
+def string(element: Element, encoding: str | None = None) -> str:
     """The text of an SpcString: units of two octets, or ASCII."""
-    return text.clean(element.contents.decode("utf-16-be" if element.tag == 0x80 else "ascii", "replace"))
+    if element.tag & 0x20:
+        raise der.NotRead("a text has parts")
+    octets = element.octets[element.begin:min(element.end, element.begin + text.MOST_OCTETS)]
+    return text.clean(octets.decode(encoding or ("utf-16-be" if element.tag == 0x80 else "ascii"), "replace"))
 
 
-def link(element):
+def link(element: Element) -> str:
     """The text of an SpcLink: an address, or a file."""
-    return string(element.kids[0]) if element.tag == 0xA2 else text.clean(element.contents.decode("ascii", "replace"))
+    return string(element.kids(1)[0]) if element.tag == 0xA2 else string(element, "ascii")
 
 
 OPUS_FIELDS = {0xA0: string, 0xA1: link}
 
 
-def described(element):
+def described(element: Element) -> str:
     """A signature of signed data in words: its digest algorithm and its signer."""
     signed = SignedData.of(element)
-    signer = signed.signers[0]
-    by = next((one.subject for one in signed.certificates if signer.names(one)), "a signer whose certificate isn't there")
-    return f"{DIGESTS.get(signer.digest, signer.digest)}, by {by}"
+    if signed.signer is None:
+        return UNREAD
+    one = signed.certificate_of(signed.signer)
+    by = text.in_a_sentence(one.subject) if one else "a signer whose certificate isn't there"
+    return f"{DIGESTS.get(signed.signer.digest, signed.signer.digest)}, by {by}"
 
 
-def further_entries(table, first):
-    """The signatures behind the first entry of a certificate table, in words; entries begin at multiples of eight."""
-    found, at = [], (len(first) + 7) // 8 * 8
-    while at + 8 <= len(table):
-        try:
-            length, = unpack_from("<I", table, at)
-            if not 8 < length <= len(table) - at:
-                break
-            found.append(described(content_info_in(table[at:at + length])[0]))
-        except (error, NotASignatureFile, *NOT_READ):
-            found.append("one that can't be read")
-        at += (length + 7) // 8 * 8
-    return found
+def nested_in_words(element: Element) -> str:
+    try:
+        return described(element)
+    except NOT_READ:
+        return UNREAD
+
+
+class Further(NamedTuple):
+    """The signatures behind the first entry of a certificate table: some of them in words, how many there are, and how many octets are none."""
+
+    described: list
+    count: int
+    left: int
+
+
+def further_entries(program: bytes, begin: int, end: int, length: int, most: int) -> Further:
+    """The signatures behind the first entry, of so many octets, of the table between two places; entries begin at multiples of eight from its start."""
+    found, count, at = [], 0, begin + (length + 7) // 8 * 8
+    while at + HEADER <= end:
+        stated, = unpack_from("<I", program, at)
+        if not HEADER < stated <= end - at:
+            break
+        count += 1
+        if count <= most:
+            found.append(entry_in_words(program[at:at + stated]))
+        at += (stated + 7) // 8 * 8
+    left = max(end - at, 0)
+    return Further(found, count, left if left >= HEADER or program.count(0, at, end) < left else 0)
+
+
+def entry_in_words(entry: bytes) -> str:
+    try:
+        return described(signed_data.content_info_in(entry))
+    except (NotASignatureFile, *NOT_READ):
+        return UNREAD
 
 
 # Time stamps.
@@ -226,20 +290,19 @@ class Stamp(NamedTuple):
     """A time stamp: its kind, its time, who made it, certificates beside it, what openssl reads, and why it isn't read."""
 
     kind: str
-    time: object
-    by: object
+    time: str | None
+    by: Certificate | None
     certificates: list
     octets: bytes
-    why: object = None
+    why: str | None = None
 
 
 TOKEN, COUNTER = "RFC 3161", "counter-signature (PKCS #9)"
 UNREADABLE = Stamp("unreadable", None, None, [], b"", "it can't be read")
-# Each stamp is a call of openssl with all certificates of the signature; signers have one.
-MOST_STAMPS = 8
+DATA, SIGNED_DATA = bytes.fromhex("06092a864886f70d010701"), bytes.fromhex("06092a864886f70d010702")
 
 
-def stamp_of(element, read, signature):
+def stamp_of(element: Element, read, signature: Signature) -> Stamp:
     """The stamp that a value is, by the reader of its kind."""
     try:
         return read(element, signature)
@@ -247,29 +310,35 @@ def stamp_of(element, read, signature):
         return UNREADABLE
 
 
-def token(element, _):
+def token(element: Element, _) -> Stamp:
     """A token: its content holds a TSTInfo (RFC 3161 2.4.2), the time of which is the first GeneralizedTime."""
     signed = SignedData.of(element)
-    stated = read_exact(signed.content.contents)
-    time = next((text.moment_of(field) for field in stated.kids if field.tag == 0x18), None)
-    by = next((one for one in signed.certificates if signed.signers[0].names(one)), None)
-    return Stamp(TOKEN, time, by, signed.certificates, write(certificates_alone(element)))
+    if signed.fields.content is None or signed.signer is None:
+        return UNREADABLE
+    time = next((text.moment_of(field) for field in der.inner(signed.fields.content).walk() if field.tag == 0x18), None)
+    return Stamp(TOKEN, time, signed.certificate_of(signed.signer), signed.certificates, certificates_alone(element, signed.fields))
 
 
-def certificates_alone(element):
+def certificates_alone(element: Element, fields: Fields) -> bytes:
     """Signed data without the members of its certificates that are of another kind, which `openssl ts` doesn't read."""
-    signed = element.kids[1].kids[0]
-    fields = [field._replace(kids=tuple(one for one in field.kids if one.tag == 0x30)) if field.tag == 0xA0 else field for field in signed.kids]
-    return element._replace(kids=(element.kids[0], element.kids[1]._replace(kids=(signed._replace(kids=tuple(fields)),))))
+    held = fields.certificates
+    if held is None or all(one.tag == der.SEQUENCE for one in held.walk()):
+        return element.encoding
+    signed = element.kids(2)[1].kids(1)[0]
+    kept = der.wrapped(held.tag, *(one.encoding for one in held.walk() if one.tag == der.SEQUENCE))
+    return content_info(*(kept if one == held else one.encoding for one in signed.kids(6)))
 
 
-def countersignature(element, signature):
+def content_info(*fields: bytes) -> bytes:
+    """Signed data with these fields."""
+    return der.wrapped(der.SEQUENCE, SIGNED_DATA, der.wrapped(0xA0, der.wrapped(der.SEQUENCE, *fields)))
+
+
+def countersignature(element: Element, signature: Signature) -> Stamp:
     """A counter-signature over the octets of the signature, put into signed data without a content for openssl."""
     signer = Signer.of(element)
     time = signer.attribute(SIGNING_TIME)
-    by = next((one for one in signature.certificates if signer.names(one)), None)
-    held = Constructed(0xA0, tuple(read_exact(one.der) for one in signature.certificates))
-    data = Constructed(0x30, (Primitive(6, bytes.fromhex("2a864886f70d010701")),))
-    signed = Constructed(0x30, (Primitive(2, b"\1"), Constructed(0x31, (element.kids[2],)), data, held, Constructed(0x31, (element,))))
-    made = Constructed(0x30, (Primitive(6, bytes.fromhex("2a864886f70d010702")), Constructed(0xA0, (signed,))))
-    return Stamp(COUNTER, text.moment_of(time) if time else None, by, signature.certificates, write(made))
+    digests, signers = der.wrapped(der.SET, signer.fields.digest.encoding), der.wrapped(der.SET, element.encoding)
+    held = der.wrapped(signed_data.CERTIFICATES, *(one.der for one in signature.certificates))
+    made = content_info(b"\2\1\1", digests, der.wrapped(der.SEQUENCE, DATA), held, signers)
+    return Stamp(COUNTER, text.moment_of(time) if time else None, signature.signed.certificate_of(signer), signature.certificates, made)

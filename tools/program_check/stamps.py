@@ -6,6 +6,7 @@ is trusted for stamps.  The certificates of that path have to be valid at the ti
 stamp: Windows and osslsigncode take a good stamp for good after they have expired.
 """
 
+import re
 from calendar import timegm
 from base64 import encodebytes
 from pathlib import Path
@@ -13,9 +14,13 @@ from tempfile import TemporaryDirectory
 from time import strptime
 from typing import NamedTuple
 
-from common.openssl import OpensslError, openssl
+from common.command import Refusal
+from common.openssl import openssl
 from program_check import text
 from program_check.signature import COUNTER, TOKEN
+
+
+LOOKED_UP = re.compile(r"error [0-9]+ at [0-9]+ depth lookup: ?(.*)")
 
 
 class Verified(NamedTuple):
@@ -57,7 +62,7 @@ def verified(stamp, signature_octets, roots):
         (folder / "signature").write_bytes(signature_octets)
         try:
             CHECKS[stamp.kind](folder, moment)
-        except OpensslError as refusal:
+        except Refusal as refusal:
             return Verified(stamp, False, reason(refusal, place))
     return Verified(stamp, True)
 
@@ -82,13 +87,20 @@ CHECKS = {TOKEN: check_token, COUNTER: check_countersignature}
 
 def reason(refusal, place):
     """The reasons in what openssl wrote: its lines of errors have nine parts, of which the sixth is the reason."""
-    lines = [line for line in (refusal.errors + "\n" + refusal.out).splitlines() if line.strip() and place not in line]
+    said = f"{getattr(refusal, 'errors', '')}\n{getattr(refusal, 'out', '')}"
+    lines = [line for line in said.splitlines() if line.strip() and place not in line]
     named = [named for line in lines for named in reasons_in(line)]
-    return text.clean("openssl: " + (", ".join(dict.fromkeys(named)) or next(iter(lines), "it doesn't say why")))
+    if not said.strip():
+        return text.visible(str(refusal))
+    whole = next(iter(lines), "it doesn't say why")
+    return f"openssl: {text.clean(', '.join(dict.fromkeys(named)) or whole)}"
 
 
 def reasons_in(line):
-    parts = line.split(":")
+    """The reasons in a line: that of `openssl verify`, or those of its stack of errors."""
+    parts, looked_up = line.split(":"), LOOKED_UP.match(line)
+    if looked_up:
+        return [looked_up[1].strip()]
     if line.lower().startswith("verify error"):
         return [line.partition(":")[2].strip()]
     if len(parts) < 6 or parts[1] != "error":

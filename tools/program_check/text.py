@@ -1,16 +1,16 @@
-"""Names, moments and octets out of a file as text for people.
+"""Names, moments and counts out of a file as text for people.
 
-A name in a file may hold any character.  What is printed of it has one line: commas and
-the like are escaped as in RFC 4514 2.4, and so is each character that doesn't print or
-that changes the direction of the text, by its octets.
+A name in a file may hold any character.  What is printed of it is as RFC 4514 says, its last part first, and escaped
+as `common.shown` does.
 """
 
 import re
-from unicodedata import category
 
-from judges.chain_reader import year_of
-from judges.der_reader import Malformed, read_exact
-from judges.value_reader import Shape, dotted, value_text
+from common import der
+from common.der import NOT_READ, Element
+from common.shown import clean, cut, escaped, in_a_sentence, visible
+
+__all__ = ["clean", "common_name", "counted", "in_a_sentence", "moment_of", "name", "shown_moment", "visible", "whole_moment"]
 
 # RFC 4514 3, RFC 4519; the last ones as openssl names them.
 SHORT = {
@@ -21,90 +21,93 @@ SHORT = {
     "1.3.6.1.4.1.311.60.2.1.1": "jurisdictionL", "1.3.6.1.4.1.311.60.2.1.2": "jurisdictionST",
     "1.3.6.1.4.1.311.60.2.1.3": "jurisdictionC",
 }
+COMMON_NAME = "2.5.4.3"
+ENCODINGS = {0x0C: "utf-8", 0x13: "latin-1", 0x14: "latin-1", 0x16: "ascii", 0x1E: "utf-16-be"}
 ESCAPED = set(',+"\\<>;')
-# Controls, formats (those that turn the text around among them), surrogates, private and unassigned characters, ends of lines.
-HIDDEN = {"Cc", "Cf", "Cs", "Co", "Cn", "Zl", "Zp"}
-MOST_CHARACTERS = 400
+MOST_NAME = 400
+# More parts of a name, and more octets of one, than any name has that is shown whole.
+MOST_PARTS, MOST_OCTETS = 64, 4 * MOST_NAME
 # The forms of UTCTime and GeneralizedTime in DER (X.690 11.7, 11.8).
 TIMES = {0x17: re.compile(rb"[0-9]{12}Z"), 0x18: re.compile(rb"[0-9]{14}(?:\.[0-9]+)?Z")}
+LONGEST_TIME = 64
 
 
-def clean(text):
-    """A text from outside, on one line and without what doesn't print."""
-    return visible(text[:MOST_CHARACTERS])
+def value_of(value: Element) -> str | None:
+    """The text of a value in a name, as much as is shown; None where it is none."""
+    encoding = ENCODINGS.get(value.tag)
+    octets = value.octets[value.begin:min(value.end, value.begin + MOST_OCTETS)]
+    whole = value.end - value.begin <= MOST_OCTETS
+    try:
+        return octets.decode(encoding, "strict" if whole else "ignore") if encoding else None
+    except UnicodeDecodeError:
+        return None
 
 
-def visible(text):
-    """A text of any length, on one line and without what doesn't print."""
-    return "".join(octets_of(one) if category(one) in HIDDEN else one for one in text)
-
-
-def octets_of(character):
-    return "".join(f"\\{octet:02X}" for octet in character.encode("utf-8", "surrogatepass"))
-
-
-def escaped(text):
-    """The value of an attribute in a name (RFC 4514 2.4)."""
+def is_special(text: str):
+    """Which characters have a stroke in front, by their places (RFC 4514 2.4)."""
     last = len(text) - 1
-    found = []
-    for at, one in enumerate(text):
-        if one in ESCAPED or one == "#" and at == 0 or one == " " and at in (0, last):
-            found.append("\\" + one)
-        else:
-            found.append(octets_of(one) if category(one) in HIDDEN else one)
-    return "".join(found)
+    return lambda at, one: one in ESCAPED or one == "#" and at == 0 or one == " " and at in (0, last)
 
 
-def attribute(member):
-    kind, value = member.kids
-    oid = dotted(kind.contents)
-    text = value_text(value)
-    # Of another kind of value the octets are shown, as in RFC 4514 2.4, and begin with a number sign.
-    return f"{SHORT.get(oid, oid)}={text if value.tag not in (0x0C, 0x13, 0x14, 0x16, 0x1E) else escaped(text)}"
+def shown_value(value: Element) -> str:
+    """A value in a name; of one that is no text the octets, behind a number sign (RFC 4514 2.4)."""
+    text = value_of(value)
+    if text is None:
+        return "#" + value.octets[value.at:min(value.end, value.at + MOST_OCTETS)].hex()
+    return escaped(text, is_special(text))
 
 
-def name(octets):
+def attribute(member: Element) -> tuple:
+    """The OID and the value of a part of a name."""
+    kind, value = member.kids(2)
+    return der.oid(kind), value
+
+
+def shown_attribute(member: Element) -> str:
+    oid, value = attribute(member)
+    return f"{SHORT.get(oid, oid)}={shown_value(value)}"
+
+
+def name(octets: bytes) -> str:
     """The text of the encoding of a name, its last part first (RFC 4514 2.1)."""
     try:
-        parts = ["+".join(map(attribute, members.kids)) for members in reversed(read_exact(octets).kids)]
-    except (Malformed, AttributeError, ValueError):
+        parts = ["+".join(map(shown_attribute, members.kids(MOST_PARTS))) for members in reversed(der.whole(octets).kids(MOST_PARTS))]
+    except NOT_READ:
         return "?"
-    text = ",".join(parts)
-    return text if len(text) <= MOST_CHARACTERS else text[:MOST_CHARACTERS] + ".."
+    return cut(",".join(parts), MOST_NAME)
 
 
-def common_name(octets):
-    """The first common name in the encoding of a name, else its whole text."""
+def common_name(octets: bytes) -> str:
+    """The first common name in the encoding of a name, else its whole text, as short as a sentence takes it."""
     try:
-        found = [member for members in read_exact(octets).kids for member in members.kids if dotted(member.kids[0].contents) == "2.5.4.3"]
-        return clean(value_text(found[0].kids[1])) if found else name(octets)
-    except (Malformed, AttributeError, ValueError):
+        found = [attribute(member) for members in der.whole(octets).kids(MOST_PARTS) for member in members.kids(MOST_PARTS)]
+        texts = [value_of(value) for oid, value in found if oid == COMMON_NAME]
+    except NOT_READ:
         return "?"
+    return in_a_sentence(escaped(texts[0]) if texts and texts[0] is not None else name(octets))
 
 
-def moment(digits):
-    """Fourteen digits of a moment as a DATE of the programs."""
+def moment_of(element: Element) -> str:
+    """A UTCTime or a GeneralizedTime as a DATE of the programs, without parts of a second; NotRead where it isn't in the form of one."""
+    form, octets = TIMES.get(element.tag), element.octets[element.begin:min(element.end, element.begin + LONGEST_TIME)]
+    if form is None or not form.fullmatch(octets):
+        raise der.NotRead("the time isn't in the form of one")
+    digits = octets.decode("ascii")
+    if element.tag == 0x17:
+        digits = ("19" if int(digits[:2]) >= 50 else "20") + digits
     return f"{digits[:4]}-{digits[4:6]}-{digits[6:8]}T{digits[8:10]}:{digits[10:12]}:{digits[12:14]}"
 
 
-def moment_of(element):
-    """A UTCTime or a GeneralizedTime as a DATE of the programs, without parts of a second; Shape where it isn't in the form of one."""
-    form = TIMES.get(element.tag)
-    if form is None or not form.fullmatch(element.contents):
-        raise Shape("the time isn't in the form of one")
-    return moment(year_of(element).partition(".")[0])
-
-
-def whole_moment(date):
+def whole_moment(date: str) -> str:
     """A DATE with its second: that of a day is the first."""
     return date if "T" in date else f"{date}T00:00:00"
 
 
-def shown_moment(date):
+def shown_moment(date: str) -> str:
     """A DATE for people."""
     return f"{whole_moment(date).replace('T', ' ')} UTC"
 
 
-def counted(many, one, more=None):
+def counted(many: int, one: str, more: str | None = None) -> str:
     """How many there are of one, in words."""
     return f"{many:,} {one if many == 1 else more or one + 's'}"

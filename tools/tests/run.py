@@ -9,7 +9,7 @@ runs the tests of each class of `test_*.py` in a process of its own, N at a time
 there are processors where -j isn't given.  With words it runs the tests alone of whose names,
 as in `test_users.VerdictTableTest.test_names`, one has a word in it.
 
-A test has no terminal and nothing to read; a process that takes longer than 300 seconds is
+A test has no terminal and nothing to read; a process that takes longer than 900 seconds is
 ended.  What tests print is shown of those that fail.  A class says by `SECONDS` about how long
 it takes, where it is long: the longest begin first.  The tests of a class with `APART = True`
 have a process each.
@@ -35,7 +35,7 @@ from pathlib import Path
 
 TESTS = Path(__file__).resolve().parent
 CRATES = TESTS.parents[1] / "crates"
-MOST_SECONDS = 300
+MOST_SECONDS = 900
 PASSED, FAILED, SKIPPED = "passed", "failed", "skipped"
 
 

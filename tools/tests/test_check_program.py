@@ -25,6 +25,7 @@ import check_program
 import signed_program
 import verdict_table
 from cases import basic_world
+from common import der
 from common.openssl import openssl
 from common.signature_forms import NotJudged
 from gate.changed_programs import with_certificates, with_entry, with_signer
@@ -33,8 +34,7 @@ from gate.programs_stand_in import StandIn
 from interop import signed_images, signed_programs, world_signatures
 from interop.signature_making import portable_executable
 from judges import question_judge
-from judges.der_reader import Constructed, Primitive, write
-from judges.value_reader import Shape
+from judges.der_reader import Constructed, Primitive, read_exact, write
 from program_check import anchors, asking, kinds, programs, reasons, stamps, text
 from program_check.certificate import Certificate
 from program_check.programs import Answer, Disagreement, NotChecked, Programs, Tried
@@ -43,28 +43,6 @@ from program_check.roots import Root, Roots
 from program_check.signature import Signature
 
 PE_LINE, ANCHOR_LINE, CHAIN_LINE = "accepted signer=0 path= excuse=none", "anchored pool= anchor=0", "accepted parents=0"
-
-
-# What openssl says of a signature stays: each is verified once in all these tests.
-KNOWN = {}
-VERIFIED = verdict_table.is_accepted
-
-
-def remembered(*asked):
-    """As `is_accepted`, which starts openssl, unless something else is in its place."""
-    if verdict_table.openssl is not openssl:
-        return VERIFIED(*asked)
-    if asked not in KNOWN:
-        KNOWN[asked] = VERIFIED(*asked)
-    return KNOWN[asked]
-
-
-def setUpModule():
-    verdict_table.is_accepted = remembered
-
-
-def tearDownModule():
-    verdict_table.is_accepted = VERIFIED
 
 
 @unittest.skipUnless(which("openssl"), "openssl isn't there")
@@ -320,7 +298,7 @@ class DisagreementTest(unittest.TestCase):
     def test_openssl_finds_good_signatures_false(self):
         entry = Signature(signed_program.signature(STORED["three"].octets))
         link = "InvalidCertificate:Signature"
-        for message, reason in (None, "SignatureError"), (entry.certificates[2].parts.tbs, link), (entry.certificates[1].parts.tbs, link):
+        for message, reason in (None, "SignatureError"), (entry.certificates[2].tbs, link), (entry.certificates[1].tbs, link):
             with patch.object(verdict_table, "is_accepted", lambda *asked: message is not None and asked[3] != message):
                 report = checked(STORED["three"].octets)
             self.assert_refused(report, reason)
@@ -404,7 +382,8 @@ class StampTest(unittest.TestCase):
 
     def test_a_stamp_of_another_signature(self):
         """The token of one program in the signature of another one."""
-        token = Signature(signed_program.signature(STORED["stamped"].octets)).signer.unsigned
+        unsigned = Signature(signed_program.signature(STORED["stamped"].octets)).signer.fields.unsigned
+        token = read_exact(unsigned.encoding).kids
 
         def stamped(signer):
             kids = [kid for kid in signer.kids if kid.tag != 0xA1]
@@ -427,208 +406,17 @@ class StampTest(unittest.TestCase):
     def test_a_counter_signature(self):
         octets = next(octets for known, _, octets in world_signatures.stored() if known == "program, a counter-signature")
         signature = Signature(basic_world.signature_file(octets))
-        one, = signature.stamps()
+        (one,), _ = signature.stamps()
         top = next(each.der for each in signature.certificates if each.is_self_issued())
         found = stamps.verified(one, signature.signer.octets, [top])
         self.assertEqual((one.kind, bool(one.by)), ("counter-signature (PKCS #9)", True))
         self.assertFalse(stamps.verified(one, signature.signer.octets[:-1] + b"\0", [top]).good)
-        self.assertIn(found.good, (True, False))
 
     def test_used(self):
         found = [stamps.Verified(stamp(time), good) for time, good in (("2020-01-01T00:00:00", False), ("2024-01-01T00:00:00", True), ("2022-01-01T00:00:00", True))]
         now = stamps.epoch("2023-01-01T00:00:00")
         self.assertIs(stamps.used(found, now), found[2])
         self.assertIsNone(stamps.used(found[:2], now))
-
-
-@unittest.skipUnless(which("openssl"), "openssl isn't there")
-class PrintingTest(unittest.TestCase):
-    """Words, output and status."""
-
-    @staticmethod
-    def printed(*words, programs=None):
-        """The status, standard output and standard error of a call."""
-        with redirect_stdout(StringIO()) as out, redirect_stderr(StringIO()) as errors:
-            with patch.object(check_program, "Programs", lambda folder: programs or StandIn()):
-                status = check_program.main([str(word) for word in words])
-        return status, out.getvalue(), errors.getvalue()
-
-    def files(self, folder):
-        program, root = Path(folder, "one.exe"), Path(folder, "root.pem")
-        program.write_bytes(STORED["three"].octets)
-        root.write_bytes(openssl("x509", "-inform", "DER", given=signed_programs.root()))
-        return program, root
-
-    def test_text_and_json(self):
-        with TemporaryDirectory() as folder:
-            program, root = self.files(folder)
-            status, out, _ = self.printed(program, "--root", root, "--at", "2023-06-15")
-            self.assertEqual(status, 0)
-            lines = out.splitlines()
-            self.assertTrue(lines[-1].startswith("accepted: 'Publisher' signed this program"))
-            status, out, _ = self.printed("--json", "--root", root, "--at", "2023-06-15", program)
-            found = json.loads(out)
-            self.assertEqual((status, found["verdict"], out.count("\n")), (0, "accepted", 1))
-            text_of = "\n".join(lines)
-            for part in (found["signer"]["sha256"], found["digest"]["value"], found["root"]["sha256"], found["sentence"], *(one["line"] for one in found["answers"])):
-                self.assertIn(part, text_of)
-
-    def test_words(self):
-        for words in ([], ["--json"], ["a", "b"], ["a", "--at"], ["a", "--at", "tomorrow"], ["a", "--at", "2023-02-29"], ["a", "--at", "2023-06-15T24:00:00"], ["a", "--at", "2023-06-15", "--at", "2023-06-15"],
-                      ["a", "--root"], ["a", "--root", "--json"], ["--rot", "a"], ["a", "--digest", "0"], ["a", "--digest", "xy"]):
-            status, out, errors = self.printed(*words)
-            self.assertEqual((status, out), (2, ""), words)
-            self.assertIn("usage:", errors)
-        found = check_program.Words.of(["p", "--root", "a", "b", "--json", "--stamp-root", "c"])
-        self.assertEqual((found.program, found.root, found.json, found.stamp_root), ("p", ["a", "b"], True, ["c"]))
-        self.assertTrue(all(map(check_program.is_date, ("2024-02-29", "0000-02-29", "9999-12-31T23:59:59"))))
-        found = check_program.Words.of(["--root", "a", "p"])
-        self.assertEqual((found.program, found.root), ("p", ["a"]))
-
-    def test_files_that_cant_be_read(self):
-        with TemporaryDirectory() as folder:
-            program, root = self.files(folder)
-            bad = Path(folder, "bad.pem")
-            for octets, why in (b"no root", "isn't a certificate"), (b"-----BEGIN CERTIFICATE-----\nxx", "isn't base64"):
-                bad.write_bytes(octets)
-                status, out, errors = self.printed(program, "--root", bad)
-                self.assertEqual((status, out, errors.count("\n")), (4, "", 1))
-                self.assertIn(why, errors)
-            for words in (["none", "--root", root], [program, "--root", "none"], [folder, "--root", root]):
-                status, out, errors = self.printed(*words)
-                self.assertEqual((status, out, errors.count("\n")), (4, "", 1), words)
-            status, out, errors = self.printed("none", "--root", root, "--json")
-            self.assertEqual((status, json.loads(out)["verdict"], errors), (4, "not checked", ""))
-
-    def test_a_program_isnt_built(self):
-        with TemporaryDirectory() as folder:
-            program, root = self.files(folder)
-            status, out, errors = self.printed(program, "--root", root, programs=Programs(folder))
-            self.assertEqual((status, out), (2, ""))
-            self.assertIn("isn't built", errors)
-
-    def test_progress(self):
-        with TemporaryDirectory() as folder, patch.object(check_program, "PATIENCE", -1.0):
-            program, root = self.files(folder)
-            _, _, errors = self.printed(program, "--root", root)
-            self.assertIn("check_program.py: openssl verifies", errors)
-        with TemporaryDirectory() as folder, patch.object(check_program, "PATIENCE", 1e9):
-            program, root = self.files(folder)
-            self.assertEqual(self.printed(program, "--root", root)[2], "")
-
-    def test_run(self):
-        """A stub of a program as a file, which is started."""
-        with TemporaryDirectory() as folder:
-            file = Path(folder, "picky_pe")
-            file.write_text("#!/bin/sh\necho \"accepted signer=$1 path= excuse=none\"\n")
-            file.chmod(0o755)
-            answer = Programs(folder).run("picky_pe", ["3"], "picky_pe")
-            self.assertEqual(answer.accepted(), {"signer": "3", "path": "", "excuse": "none"})
-
-    def test_tried(self):
-        """By a stub of `rt`: the line and the status of the program, and none where it didn't end."""
-        with TemporaryDirectory() as folder:
-            file, rt = Path(folder, "file"), Path(folder, "rt")
-            file.write_bytes(b"")
-            with patch.dict(os.environ, {"PATH": folder + os.pathsep + os.environ["PATH"]}):
-                rt.write_text("#!/bin/sh\necho \"refused $*\" >&2\necho 'refused NotMz'\necho 'run=ended status=1 runners=1 proved=no' >&2\nexit 1\n")
-                rt.chmod(0o755)
-                answer = Tried().run("picky_pe", [file, file, "2023-06-15"], "picky_pe")
-                self.assertEqual((answer.refusal(), answer.shown, answer.status), ("NotMz", "picky_pe (by rt try)", 1))
-                rt.write_text("#!/bin/sh\necho 'accepted signer=0 path= excuse=none'\nexit 0\n")
-                with self.assertRaises(NotChecked):
-                    Tried().run("picky_pe", [file], "picky_pe")
-
-    def test_tried_together(self):
-        """By a stub of `rt`: expected calls are made in one, with their files in hexadecimal, and another call by itself."""
-        with TemporaryDirectory() as folder:
-            file, rt, rows = Path(folder, "file"), Path(folder, "rt"), Path(folder, "rows")
-            file.write_bytes(b"\1\2")
-            ended = "echo 'run=ended status=0 runners=1 proved=no' >&2\n"
-            calls = [("picky_pe", [file, "x"]), ("picky_anchor", ["3", file])]
-            with patch.dict(os.environ, {"PATH": folder + os.pathsep + os.environ["PATH"]}):
-                rt.write_text(f"#!/bin/sh\ncp \"${{5#*=}}\" {rows}\nprintf '0 accepted\\n2 \\n'\n{ended}")
-                rt.chmod(0o755)
-                programs = Tried()
-                programs.expect(calls)
-                self.assertEqual(rows.read_text(), "picky_pe 65536 - f0=0102 f0 x\npicky_anchor 65536 - f1=0102 3 f1\n")
-                rt.write_text("#!/bin/sh\nexit 1\n")
-                self.assertEqual([programs.run(*call, "")[2:] for call in calls], [(0, "accepted\n"), (2, "")])
-                asked = [("picky_ask", [file]), ("picky_ask", ["--chain", file, file]), ("picky_ask", [])]
-                rt.write_text(f"#!/bin/sh\ncp \"${{5#*=}}\" {rows}\nprintf '0 rsa-md5 1\\nrsa-md5 2\\n0 \\n1 refused NotMz\\n'\n{ended}")
-                programs.expect(asked)
-                self.assertEqual(rows.read_text().splitlines()[0], "picky_ask 65536 - f0=0102 f0")
-                self.assertEqual([programs.run(*call, "")[2:] for call in asked], [(0, "rsa-md5 1\nrsa-md5 2\n"), (0, ""), (1, "refused NotMz\n")])
-                file.write_bytes(bytes(10_000))
-                rt.write_text(f"#!/bin/sh\ncp \"${{5#*=}}\" {rows}\nprintf '0 \\n'\n{ended}")
-                programs.expect(asked[:1])
-                self.assertEqual(rows.read_text().split()[1], "100000")
-                rt.write_text(f"#!/bin/sh\necho alone\n{ended}")
-                file.write_bytes(b"\3")
-                self.assertEqual(programs.run(*calls[0], "")[2:], (0, "alone\n"))
-                with self.assertRaises(NotChecked):
-                    programs.expect(calls)
-
-    def test_other_files(self):
-        for octets, what in (
-            (b"\x7fELF" + bytes(60), "program of Linux"), (b"PK\x03\x04" + bytes(60), "zip archive"), (b"MSCF" + bytes(60), "cabinet"),
-            (bytes.fromhex("d0cf11e0a1b11ae1") + bytes(60), ".msi"), (b"-----BEGIN PKCS7-----\n", "PEM"), (b"", "an empty file"),
-            (b"Write-Host\n# SIG # Begin signature block\n", "signed script"), (signed_programs.root(), "a certificate"),
-            (STORED["three"].file().octets, "WIN_CERTIFICATE"), (catalogue(), "a catalogue"),
-        ):
-            report = checked(octets)
-            self.assertEqual((report.verdict, report.reason, report.status), ("refused", "NotMz", 1), what)
-            self.assertIn(what, report.sentence + report.next)
-        self.assertEqual(kinds.of(b"hello"), (None, None))
-        self.assertEqual(checked(portable_executable()).reason, "NoTable")
-
-
-def catalogue():
-    return next(octets for known, _, octets in world_signatures.stored() if "catalogue" in known)
-
-
-class TextTest(unittest.TestCase):
-    """Names can't forge a line of output."""
-
-    @staticmethod
-    def named(*values):
-        return write(Constructed(0x30, tuple(
-            Constructed(0x31, (Constructed(0x30, (Primitive(6, bytes.fromhex(oid)), Primitive(0x0C, value.encode()))),)) for oid, value in values)))
-
-    @unittest.skipUnless(which("openssl"), "openssl isn't there")
-    def test_names_are_openssl_s(self):
-        subject = r"""/C=DE/O=A, B \+ C/OU=# one/CN= x <y>; "z"\\/emailAddress=a@b.example"""
-        der = openssl("req", "-x509", "-newkey", "ed25519", "-nodes", "-keyout", "/dev/null", "-subj", subject, "-outform", "DER")
-        said = openssl("x509", "-inform", "DER", "-noout", "-subject", "-nameopt", "RFC2253,-esc_msb,utf8", given=der).decode().strip()
-        self.assertEqual("subject=" + Certificate(der).subject, said)
-
-    def test_lines(self):
-        for hidden in "\n", "\r", "\x1b[2J", "\u202e", "\u2028", "\0", "\x7f", "\x9b", "\ufeff", "\u200b":
-            shown = text.name(self.named(("550403", f"Good{hidden}accepted: all is well")))
-            self.assertEqual(len(shown.splitlines()), 1)
-            self.assertNotIn(hidden[0], shown)
-            self.assertNotIn(hidden[0], text.clean(f"a{hidden}b"))
-
-    def test_long_names(self):
-        self.assertLess(len(text.name(self.named(("550403", "x" * 10_000)))), 500)
-        self.assertEqual(text.common_name(self.named(("550406", "DE"), ("550403", "One"))), "One")
-        self.assertEqual(text.name(b"\x30"), "?")
-
-    def test_no_moments(self):
-        """Only digits and a Z are a time; what else is in one isn't shown."""
-        for tag, octets in (
-            (0x17, b""), (0x17, b"Z"), (0x17, b"2306010000Z"), (0x17, b"230601000000"), (0x17, b"230601000000z"), (0x17, b"230601000000+0100"),
-            (0x17, b"20230601000000Z"), (0x17, b"\x1b[8m01000000Z"), (0x17, b"2306010\n0000Z"), (0x17, b"2306010000 0Z"), (0x17, b"230601000000Z\n"),
-            (0x18, b"230601000000Z"), (0x18, b"20230601000000"), (0x18, b"20230601000000.Z"), (0x18, b"20230601000000,5Z"),
-            (0x18, b"20230601000000.\x1b[8mZ"), (0x18, b"2023060100000\xb2Z"), (0x18, b"+0230601000000Z"), (0x18, b"2_230601000000Z"),
-            (0x04, b"20230601000000Z"),
-        ):
-            with self.assertRaises(Shape, msg=octets):
-                text.moment_of(Primitive(tag, octets))
-
-    def test_moments(self):
-        self.assertEqual(text.moment_of(Primitive(0x17, b"500101000000Z")), "1950-01-01T00:00:00")
-        self.assertEqual(text.moment_of(Primitive(0x18, b"20230601123456.789Z")), "2023-06-01T12:34:56")
 
 
 def are_built():
@@ -671,12 +459,18 @@ class QuestionsTest(unittest.TestCase):
         alone = question_judge.of_file(entry)[1].splitlines()
         with TemporaryDirectory() as folder:
             files = anchors.Files(Path(folder))
-            self.assertEqual(asking.questions(StandIn(), files, entry), (alone, []))
-            more, unread = asking.questions(StandIn(), files, entry, signature.certificates[1:], [Certificate(signed_programs.root())])
-            self.assertEqual((more[:len(alone)], unread), (alone, []))
-            self.assertEqual(bytes.fromhex(more[-1].split(" ")[5]), signature.certificates[1].parts.tbs)
-            none, unread = asking.questions(StandIn(), files, b"none")
-            self.assertEqual((none, unread), ([], ["picky_ask reads no signature: refused WrongLength"]))
+
+            def asked(*about):
+                asking_of = asking.Asking(StandIn(), files, *about)
+                return list(asking_of.lines()), asking_of
+
+            lines, of_file = asked(entry)
+            self.assertEqual((lines, of_file.lacking), (alone, []))
+            lines, with_root = asked(entry, signature.certificates[1:], [Certificate(signed_programs.root())])
+            self.assertEqual((lines[:len(alone)], with_root.lacking), (alone, []))
+            self.assertEqual(bytes.fromhex(lines[-1].split(" ")[5]), signature.certificates[1].tbs)
+            lines, of_none = asked(b"none")
+            self.assertEqual((lines, of_none.lacking), ([], ["picky_ask reads no signature: refused WrongLength"]))
 
 
 class DocumentedTest(unittest.TestCase):
@@ -704,12 +498,39 @@ class DocumentedTest(unittest.TestCase):
     def test_options(self):
         """The options are in the page of the manual, in the completion and in the docstring."""
         top = Path(__file__).resolve().parents[2]
-        known = {*check_program.LISTS, *check_program.VALUES, *check_program.FLAGS}
+        known = set(check_program.OPTIONS)
         page, completion = (top / "man/check_program.1").read_text("ascii"), (top / "tools/completion/picky.bash").read_text("ascii")
         self.assertEqual({"--" + word for word in re.findall(r"^\.It Fl -(\S+)", page, re.MULTILINE)}, known)
         for option in known:
             self.assertIn(f"  {option}", check_program.__doc__)
             self.assertIn(f" {option} ", completion)
+
+    def recipe(self, status):
+        """What the page's recipe leaves of a list of publishers where the check of the known program ends with a status."""
+        page = (Path(__file__).resolve().parents[2] / "docs/SCRIPTING.md").read_text("utf-8")
+        first = re.search(r"^found=.*known\.exe.*\n.*>> publishers\.txt$", page, re.MULTILINE)[0]
+        stubs = f"python3() {{ echo '{{}}'; return {status}; }}; jq() {{ cat > /dev/null; echo key; }}"
+        with TemporaryDirectory() as folder:
+            subprocess.run(["bash", "-c", f"{stubs}\n{first}"], cwd=folder, capture_output=True)
+            file = Path(folder, "publishers.txt")
+            return file.read_text() if file.exists() else ""
+
+    def test_publishers(self):
+        """The key of a program is listed where it was accepted, and nowhere else."""
+        self.assertEqual(self.recipe(0), "key\n")
+        for status in range(1, 8):
+            self.assertEqual(self.recipe(status), "", status)
+
+    def test_completion(self):
+        """As the script is called, by itself or by Python, the options are offered, and behind -- none are."""
+        script = Path(__file__).resolve().parents[1] / "completion/picky.bash"
+        for function, words, offered in (
+            ("_check_program", ["check_program.py", "--"], True), ("_picky_python", ["python3", "tools/check_program.py", "--"], True),
+            ("_picky_python", ["python3", "other.py", "--"], False), ("_check_program", ["check_program.py", "--", "--"], False),
+        ):
+            called = f"source {script}; compopt() {{ :; }}; COMP_WORDS=({' '.join(words)}); COMP_CWORD={len(words) - 1}; {function} {words[0]} {words[-1]} {words[-2]}; echo ${{COMPREPLY[@]}}"
+            found = subprocess.run(["bash", "-c", called], capture_output=True, text=True, cwd="/").stdout.split()
+            self.assertEqual(set(check_program.OPTIONS) <= set(found), offered, words)
 
     def test_programs(self):
         self.assertEqual(set(programs.ACCEPTED), {"picky", "picky_pe", "picky_ask", "picky_anchor"})

@@ -1,0 +1,90 @@
+"""The headers and sections of a program of Windows, as far as they lie where nobody signed (PE Format, "Section Table").
+
+A loader takes the headers and the sections out of a file.  What it takes from the certificate table, or from octets that
+a digest leaves out, nobody signed.
+"""
+
+from hashlib import new
+from struct import error, unpack_from
+from typing import NamedTuple
+
+import signed_program
+
+SECTION = 40
+# In the optional header.
+SIZE_OF_HEADERS = 60
+# Ahead of the optional header.
+SECTION_COUNT, OPTIONAL_SIZE = -18, -4
+
+
+class Section(NamedTuple):
+    """Where the octets of a section are in the file."""
+
+    begin: int
+    end: int
+
+
+class Image(NamedTuple):
+    """Where the headers and the sections of a signed program end, and where its certificate table is."""
+
+    headers: int
+    section_table_end: int
+    sections: list
+    table: int
+    table_length: int
+
+    @classmethod
+    def of(cls, program: bytes) -> "Image | None":
+        """None where the file ends before its headers do."""
+        try:
+            optional, _, at, length = signed_program.parts(program)
+            count, size = unpack_from("<H", program, optional + SECTION_COUNT)[0], unpack_from("<H", program, optional + OPTIONAL_SIZE)[0]
+            headers, = unpack_from("<I", program, optional + SIZE_OF_HEADERS)
+            begin = optional + size
+            places = [unpack_from("<II", program, begin + SECTION * number + 16) for number in range(count)]
+        except (error, signed_program.NotSigned):
+            return None
+        sections = [Section(place, place + length) for length, place in places if length]
+        return cls(headers, begin + SECTION * count, sections, at, length)
+
+    def unsigned_part(self) -> str | None:
+        """What of the headers and sections reaches to where nobody signed, None where nothing does."""
+        if self.section_table_end > self.headers or self.headers > self.table:
+            return "its headers"
+        outside = [one for one in self.sections if one.end > self.table]
+        over = [one for one in self.sections if one.begin < self.headers]
+        if outside or over:
+            return f"{len(outside or over)} of its {len(self.sections)} sections"
+        return None
+
+    def has_gap(self) -> bool:
+        """Whether sections that don't overlap, and are in the file, have a gap."""
+        places = sorted(self.sections)
+        apart = all(one.end <= other.begin for one, other in zip(places, places[1:]))
+        return apart and self.unsigned_part() is None and self.gap() > 0
+
+    def gap(self) -> int:
+        """How many octets behind the headers lie between sections, in none."""
+        at, found = self.headers, 0
+        for one in sorted(self.sections):
+            found += max(one.begin - at, 0)
+            at = max(at, one.end)
+        return found
+
+
+def digest_by_sections(program: bytes, image: Image, digest: str) -> str:
+    """The digest as Microsoft's text has it: headers, sections by their places, and as many octets at the end as are left.
+
+    Where sections have a gap it is another one than that of all octets: the gap isn't digested, and octets at the end are twice.
+    """
+    optional, place, at, _ = signed_program.parts(program)
+    hashed = new(digest)
+    checksum = optional + signed_program.CHECKSUM
+    held, done = memoryview(program), image.headers
+    for begin, end in (0, checksum), (checksum + 4, optional + place), (optional + place + 8, image.headers):
+        hashed.update(held[begin:end])
+    for one in sorted(image.sections):
+        hashed.update(held[one.begin:one.end])
+        done += one.end - one.begin
+    hashed.update(held[min(done, at):at])
+    return hashed.hexdigest()

@@ -1,0 +1,259 @@
+"""Tests of what `check_program` says beside the verdict: roots, weak links, octets that nobody signed, and what is cut.
+
+    python3 -m unittest discover -s tools/tests
+"""
+
+import hashlib
+import json
+import sys
+import unittest
+from pathlib import Path
+from struct import pack
+from tempfile import TemporaryDirectory
+
+sys.path.insert(0, str(Path(__file__).resolve().parents[1]))
+
+from cryptography import x509
+from cryptography.x509.oid import ObjectIdentifier
+
+import signed_program
+from gate.check_program_calls import STORED, changed, checked
+from gate.made_programs import CODE_SIGNING, SERVERS, Holder, chain, rsa_key, signed
+from gate.programs_stand_in import StandIn
+from judges.der_reader import Constructed, Primitive, read_exact, write
+from program_check import notes, roots
+from program_check.certificate import Certificate
+from program_check.describe import MOST_OTHERS
+from program_check.programs import Answer
+from program_check.roots import Root, Roots
+from program_check.signature import Signature
+from program_check.stamps import pem
+
+
+def trusting(*holders):
+    return Roots([Root(one.der, "root") for one in holders], "root")
+
+
+class RootsTest(unittest.TestCase):
+    """What counts as a root of a file."""
+
+    @classmethod
+    def setUpClass(cls):
+        cls.key = rsa_key()
+        cls.inner = Holder("Inner", rsa_key())
+        text = x509.UnrecognizedExtension(ObjectIdentifier("1.2.3.4"), pem([cls.inner.der]))
+        cls.outer = Holder("Outer", cls.key, extensions=[(text, False)])
+
+    def of(self, octets):
+        with TemporaryDirectory() as folder:
+            file = Path(folder, "root")
+            file.write_bytes(octets)
+            return [root.der for root in roots.from_files([file]).all]
+
+    def test_der_with_a_text_in_it(self):
+        """A file that begins as DER is the certificate that it is, whatever stands in it."""
+        self.assertIn(b"-----BEGIN CERTIFICATE-----", self.outer.der)
+        self.assertEqual(self.of(self.outer.der), [self.outer.der])
+
+    def test_pem(self):
+        one, other = self.inner.der, self.outer.der
+        self.assertEqual(self.of(pem([one, other])), [one, other])
+        self.assertEqual(self.of(b"subject: x\n" + pem([one]).replace(b"\n", b"\r\n") + b"rest"), [one])
+        # The text within the certificate's own is no line of the file.
+        self.assertEqual(self.of(pem([other])), [other])
+
+    def test_begin_at_the_start_of_a_line(self):
+        text = pem([self.inner.der])
+        for octets in (b" " + text, b"x" + text, b"comment: " + text, text.replace(b"-----BEGIN", b"> -----BEGIN")):
+            with self.assertRaises(roots.Unreadable):
+                self.of(octets)
+        self.assertEqual(self.of(b"x " + text + pem([self.outer.der])), [self.outer.der])
+
+    def test_the_one_that_isnt_read(self):
+        """Of a bundle it is said which certificate isn't one."""
+        with self.assertRaisesRegex(roots.Unreadable, "certificate 2 of 3 certificates in it isn't a certificate"):
+            self.of(pem([self.inner.der, self.inner.der[:-1], self.outer.der]))
+        with self.assertRaisesRegex(roots.Unreadable, "certificate 2 of it has no END line"):
+            self.of(pem([self.inner.der]) + pem([self.outer.der])[:200])
+
+
+class WeakTest(unittest.TestCase):
+    """Notes on what is weak, of programs that are accepted all the same."""
+
+    def notes_of(self, root, signer, **how):
+        report = checked(signed(signer, [signer.der], **how), trusting(root))
+        self.assertEqual(report.verdict, "accepted", report.sentence)
+        return "\n".join(report.notes)
+
+    def test_nothing_weak(self):
+        self.assertEqual(self.notes_of(*chain()), "")
+
+    def test_sha1_on_a_link(self):
+        for digest in "sha1", "md5":
+            said = self.notes_of(*chain(hashed=digest))
+            self.assertIn(f"the signature on the certificate 'Signer' is by {digest}, which is weak", said)
+
+    def test_digests(self):
+        root, signer = chain()
+        self.assertIn("sha1 is weak: whoever signs can make two programs of one digest", self.notes_of(root, signer, digest="sha1", by="sha1"))
+
+    def test_short_keys(self):
+        said = self.notes_of(*chain(root_key=rsa_key(1024), signer_key=rsa_key(1024)))
+        self.assertIn("the signer's key of 1024 bits is short", said)
+        self.assertIn("the key of 'Root' of 1024 bits is short", said)
+
+    def test_no_extended_key_usage(self):
+        """Whether the proved program takes such a signer or not, the report says that it names none."""
+        root, signer = chain(purposes=None)
+        report = checked(signed(signer, [signer.der]), trusting(root))
+        self.assertIn("the signer's certificate names no extended key usage at all", "\n".join(report.notes))
+
+    def test_usages_of_issuers(self):
+        root = Holder("Root", rsa_key())
+        between = Holder("Between", rsa_key(), root, purposes=[SERVERS])
+        signer = Holder("Signer", rsa_key(), between, ca=False, purposes=[CODE_SIGNING])
+        report = checked(signed(signer, [signer.der, between.der]), trusting(root))
+        self.assertIn("the certificate 'Between' issues for other uses than code signing, which isn't checked: servers", "\n".join(report.notes))
+
+    def test_exponents(self):
+        """Under 1 anyone signs anything, and an even one is no exponent (RFC 8017 3.1); the numbers are put into a certificate's key."""
+        octets = Holder("One", rsa_key()).der
+        for exponent, weak in (b"\1\0\1", False), (b"\0\0\1", True), (b"\1\0\0", True), (b"\0\0\2", True), (b"\0\0\3", False):
+            made = octets.replace(b"\2\3\1\0\1", b"\2\3" + exponent)
+            said = "\n".join(notes.of_key(Certificate(made), "its key"))
+            self.assertEqual("has an exponent that no key of RSA has" in said, weak, exponent)
+
+    def test_a_second_opinion(self):
+        """`openssl verify` refuses an unknown critical extension, which the proved programs leave out."""
+        critical = [(x509.UnrecognizedExtension(ObjectIdentifier("1.2.3.4"), b"\5\0"), True)]
+        root = Holder("Root", rsa_key())
+        signer = Holder("Signer", rsa_key(), root, ca=False, purposes=[CODE_SIGNING], extensions=critical)
+        self.assertIn("`openssl verify` refuses this path: openssl: unhandled critical extension", self.notes_of(root, signer))
+        report = checked(STORED["three"].octets)
+        self.assertIn("unknown critical extensions", "\n".join(report.lines()))
+
+
+class UnsignedTest(unittest.TestCase):
+    """Octets of the certificate table that nobody signed are named."""
+
+    @classmethod
+    def setUpClass(cls):
+        cls.root, cls.signer = chain()
+
+    def report(self, octets):
+        return checked(octets, trusting(self.root))
+
+    def said(self, octets):
+        report = self.report(octets)
+        self.assertEqual(report.verdict, "accepted", report.sentence)
+        return [note for note in report.notes if "nobody signed them" in note]
+
+    def lengthened(self, added):
+        """The program with octets behind the first entry of its table."""
+        octets = signed(self.signer, [self.signer.der])
+        optional, place, _, length = signed_program.parts(octets)
+        at = optional + place + 4
+        return octets[:at] + pack("<I", length + len(added)) + octets[at + 4:] + added
+
+    def test_none(self):
+        self.assertEqual(self.said(signed(self.signer, [self.signer.der])), [])
+        self.assertEqual(self.said(self.lengthened(bytes(7))), [])
+
+    def test_behind_the_first_entry(self):
+        for added in bytes(4096), b"\xff" * 4096, pack("<I", 4) + b"x" * 4092:
+            self.assertEqual(self.said(self.lengthened(added)), ["the certificate table holds 4,096 octets behind its entries: nobody signed them"])
+        self.assertEqual(self.said(self.lengthened(b"\0\0\1")), ["the certificate table holds 3 octets behind its entries: nobody signed them"])
+
+    def test_in_an_unsigned_attribute(self):
+        inside = Constructed(0x30, (Primitive(6, bytes.fromhex("2a0304")), Constructed(0x31, (Primitive(4, b"x" * 1000),))))
+        one, = self.said(signed(self.signer, [self.signer.der], unsigned=[inside]))
+        self.assertEqual(one, f"the certificate table holds {len(write(inside)):,} octets in 1 unsigned attribute of a kind that isn't known here: nobody signed them")
+
+    def test_among_the_certificates(self):
+        other = write(Constructed(0x30, (Primitive(4, b"x" * 500),)))
+        one, = self.said(signed(self.signer, [self.signer.der, other]))
+        self.assertIn("octets among the certificates, in none that is read here", one)
+
+    def test_two_files_of_one_digest(self):
+        """They differ in an unsigned attribute alone: `file_sha256` tells them apart, and is Python's."""
+        reports = []
+        for octets in b"one", b"two":
+            inside = Constructed(0x30, (Primitive(6, bytes.fromhex("2a0304")), Constructed(0x31, (Primitive(4, octets),))))
+            made = signed(self.signer, [self.signer.der], unsigned=[inside])
+            reports.append(self.report(made))
+            self.assertEqual(reports[-1].file_sha256, hashlib.sha256(made).hexdigest())
+            self.assertIn(f"file sha256  {reports[-1].file_sha256}", list(reports[-1].lines()))
+        self.assertEqual([one.verdict for one in reports], ["accepted"] * 2)
+        self.assertEqual(reports[0].digest, reports[1].digest)
+        self.assertNotEqual(reports[0].file_sha256, reports[1].file_sha256)
+
+    def test_many_entries(self):
+        """A hundred lines, and how many more there are; a million entries cost no more."""
+        entry = pack("<IHH", 9, 0x0200, 2) + b"\x30" + bytes(7)
+        for many in 99, 100, 101, 50_000:
+            report = self.report(self.lengthened(entry * many))
+            self.assertEqual(report.verdict, "accepted")
+            self.assertEqual(len(report.other_signatures), min(many, MOST_OTHERS) + (many > MOST_OTHERS))
+            if many > MOST_OTHERS:
+                self.assertEqual(report.other_signatures[-1], f"and {many - MOST_OTHERS:,} more, which aren't listed")
+            self.assertLess(len(json.dumps(report.json())), 40_000)
+            self.assertNotIn("osslsigncode verify", report.other_signatures[0])
+
+    def test_serial_numbers(self):
+        """Twenty octets at most (RFC 5280 4.1.2.2), of a longer one how many more."""
+        long = Certificate(Holder("One", rsa_key(), serial=int.from_bytes(b"\x7f" * 20, "big")).der)
+        self.assertEqual(long.shown()["serial"], "7f" * 20)
+        tbs, *rest = long_serial(long.der, b"\1" * 2_000_000)
+        self.assertEqual(Certificate(write(Constructed(0x30, (tbs, *rest)))).shown()["serial"], "01" * 20 + ".. and 1,999,980 octets more")
+
+
+def long_serial(octets, serial):
+    tbs, *rest = read_exact(octets).kids
+    version, _, *fields = tbs.kids
+    return tbs._replace(kids=(version, Primitive(2, serial), *fields)), *rest
+
+
+class RowsTest(unittest.TestCase):
+    """A program is accepted where the table has the signature of its signer and of each link as a good one, whatever the programs say."""
+
+    def report(self, stubs, octets):
+        class Accepting(StandIn):
+            def run(self, program, words, shown):
+                return Answer(program, shown, *stubs[program]) if program in stubs else super().run(program, words, shown)
+
+        return checked(octets, programs=Accepting())
+
+    STUBS = {"picky_pe": (0, "accepted signer=0 path= excuse=none\n"), "picky_anchor": (0, "anchored pool=1 anchor=0\n")}
+
+    def test_good_ones(self):
+        self.assertEqual(self.report(self.STUBS, STORED["three"].octets).verdict, "accepted")
+
+    def test_a_forged_signature(self):
+        octets = STORED["three"].octets
+        signature = Signature(signed_program.signature(octets)).signer.octets
+        report = self.report(self.STUBS, octets.replace(signature, changed(signature, 7)))
+        self.assertEqual((report.verdict, report.reason, report.root, report.path, report.signer_verified), ("refused", None, None, [], False))
+        self.assertIn("the programs disagree: the program accepts the signature, which isn't a good one in the table", report.sentence)
+
+    def test_a_forged_link(self):
+        octets = STORED["three"].octets
+        for place in 1, 2:
+            signature = Signature(signed_program.signature(octets)).certificates[place].signature
+            report = self.report(self.STUBS, octets.replace(signature, changed(signature, 7)))
+            self.assertEqual((report.verdict, report.root), ("refused", None))
+            self.assertIn("the programs disagree: picky_anchor takes", report.sentence)
+
+    def test_nothing_is_asked(self):
+        """A program that lists no question leaves the table empty."""
+        for status, output in (0, ""), (1, "refused NotMz\n"):
+            report = self.report(self.STUBS | {"picky_ask": (status, output)}, STORED["three"].octets)
+            self.assertNotEqual(report.verdict, "accepted")
+
+    def test_an_executable_of_that_name(self):
+        """Anything that prints such lines counts for nothing without the table."""
+        report = self.report(self.STUBS, changed(STORED["three"].octets, 600))
+        self.assertIn("the programs disagree", report.sentence)
+
+
+if __name__ == "__main__":
+    unittest.main()

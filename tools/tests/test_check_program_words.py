@@ -1,0 +1,374 @@
+"""Tests of the words of `check_program`, of its output and of its status.
+
+    python3 -m unittest discover -s tools/tests
+"""
+
+import json
+import os
+import re
+import signal
+import subprocess
+import sys
+import unittest
+from contextlib import redirect_stderr, redirect_stdout
+from io import StringIO
+from pathlib import Path
+from shutil import which
+from tempfile import TemporaryDirectory
+from time import sleep
+from unittest.mock import patch
+
+sys.path.insert(0, str(Path(__file__).resolve().parents[1]))
+
+import check_program
+import order_bag
+import ordered_program
+import pool_questions
+import signed_program
+from common.openssl import openssl
+from gate.check_program_calls import STORED, checked
+from gate.programs_stand_in import StandIn
+from interop import signed_programs, world_signatures
+from interop.signature_making import portable_executable
+from program_check import kinds
+from program_check.programs import NotChecked, Programs, Tried
+
+TOOLS = Path(__file__).resolve().parents[1]
+
+
+@unittest.skipUnless(which("openssl"), "openssl isn't there")
+class PrintingTest(unittest.TestCase):
+    """Words, output and status."""
+
+    @staticmethod
+    def printed(*words, programs=None):
+        """The status, standard output and standard error of a call."""
+        with redirect_stdout(StringIO()) as out, redirect_stderr(StringIO()) as errors:
+            with patch.object(check_program, "Programs", lambda folder: programs or StandIn()):
+                status = check_program.main([str(word) for word in words])
+        return status, out.getvalue(), errors.getvalue()
+
+    def files(self, folder):
+        program, root = Path(folder, "one.exe"), Path(folder, "root.pem")
+        program.write_bytes(STORED["three"].octets)
+        root.write_bytes(openssl("x509", "-inform", "DER", given=signed_programs.root()))
+        return program, root
+
+    def test_text_and_json(self):
+        with TemporaryDirectory() as folder:
+            program, root = self.files(folder)
+            status, out, _ = self.printed(program, "--root", root, "--at", "2023-06-15")
+            self.assertEqual(status, 0)
+            lines = out.splitlines()
+            self.assertTrue(lines[-1].startswith("accepted: 'Publisher' signed this program"))
+            status, out, _ = self.printed("--json", "--root", root, "--at", "2023-06-15", program)
+            found = json.loads(out)
+            self.assertEqual((status, found["verdict"], out.count("\n")), (0, "accepted", 1))
+            text_of = "\n".join(lines)
+            for part in (found["signer"]["sha256"], found["digest"]["value"], found["root"]["sha256"], found["sentence"], *(one["line"] for one in found["answers"])):
+                self.assertIn(part, text_of)
+
+    def test_files_that_cant_be_read(self):
+        with TemporaryDirectory() as folder:
+            program, root = self.files(folder)
+            bad = Path(folder, "bad.pem")
+            for octets, why in (
+                (b"no root", "isn't a certificate"), (b"-----BEGIN CERTIFICATE-----\nxx", "has no END line"),
+                (b"-----BEGIN CERTIFICATE-----\nx$x\n-----END CERTIFICATE-----\n", "isn't base64"), (b"0" + root.read_bytes(), "isn't a certificate"),
+            ):
+                bad.write_bytes(octets)
+                status, out, errors = self.printed(program, "--root", bad)
+                self.assertEqual((status, out, errors.count("\n")), (4, "", 1))
+                self.assertIn(why, errors)
+            for words in (["none", "--root", root], [program, "--root", "none"], [folder, "--root", root]):
+                status, out, errors = self.printed(*words)
+                self.assertEqual((status, out, errors.count("\n")), (4, "", 1), words)
+            status, out, errors = self.printed("none", "--root", root, "--json")
+            self.assertEqual((status, json.loads(out)["verdict"], errors), (4, "not checked", ""))
+
+    def test_a_program_isnt_built(self):
+        with TemporaryDirectory() as folder:
+            program, root = self.files(folder)
+            status, out, errors = self.printed(program, "--root", root, programs=Programs(folder))
+            self.assertEqual((status, out), (2, ""))
+            self.assertIn("isn't built", errors)
+
+    def test_progress(self):
+        with TemporaryDirectory() as folder, patch.object(check_program, "PATIENCE", -1.0):
+            program, root = self.files(folder)
+            _, _, errors = self.printed(program, "--root", root)
+            self.assertIn("check_program.py: openssl verifies", errors)
+        with TemporaryDirectory() as folder, patch.object(check_program, "PATIENCE", 1e9):
+            program, root = self.files(folder)
+            self.assertEqual(self.printed(program, "--root", root)[2], "")
+
+    def test_run(self):
+        """A stub of a program as a file, which is started."""
+        with TemporaryDirectory() as folder:
+            file = Path(folder, "picky_pe")
+            file.write_text("#!/bin/sh\necho \"accepted signer=$1 path= excuse=none\"\n")
+            file.chmod(0o755)
+            answer = Programs(folder).run("picky_pe", ["3"], "picky_pe")
+            self.assertEqual(answer.accepted(), {"signer": "3", "path": "", "excuse": "none"})
+
+    def test_tried(self):
+        """By a stub of `rt`: the line and the status of the program, and none where it didn't end."""
+        with TemporaryDirectory() as folder:
+            file, rt = Path(folder, "file"), Path(folder, "rt")
+            file.write_bytes(b"")
+            with patch.dict(os.environ, {"PATH": folder + os.pathsep + os.environ["PATH"]}):
+                rt.write_text("#!/bin/sh\necho \"refused $*\" >&2\necho 'refused NotMz'\necho 'run=ended status=1 runners=1 proved=no' >&2\nexit 1\n")
+                rt.chmod(0o755)
+                answer = Tried().run("picky_pe", [file, file, "2023-06-15"], "picky_pe")
+                self.assertEqual((answer.refusal(), answer.shown, answer.status), ("NotMz", "picky_pe (by rt try)", 1))
+                rt.write_text("#!/bin/sh\necho 'accepted signer=0 path= excuse=none'\nexit 0\n")
+                with self.assertRaises(NotChecked):
+                    Tried().run("picky_pe", [file], "picky_pe")
+
+    def test_tried_together(self):
+        """By a stub of `rt`: expected calls are made in one, with their files in hexadecimal, and another call by itself."""
+        with TemporaryDirectory() as folder:
+            file, rt, rows = Path(folder, "file"), Path(folder, "rt"), Path(folder, "rows")
+            file.write_bytes(b"\1\2")
+            ended = "echo 'run=ended status=0 runners=1 proved=no' >&2\n"
+            calls = [("picky_pe", [file, "x"]), ("picky_anchor", ["3", file])]
+            with patch.dict(os.environ, {"PATH": folder + os.pathsep + os.environ["PATH"]}):
+                rt.write_text(f"#!/bin/sh\ncp \"${{7#*=}}\" {rows}\nprintf '0 accepted\\n2 \\n'\n{ended}")
+                rt.chmod(0o755)
+                programs = Tried()
+                programs.expect(calls)
+                self.assertEqual(rows.read_text(), "picky_pe 65536 - f0=0102 f0 x\npicky_anchor 65536 - f1=0102 3 f1\n")
+                rt.write_text("#!/bin/sh\nexit 1\n")
+                self.assertEqual([programs.run(*call, "")[2:] for call in calls], [(0, "accepted\n"), (2, "")])
+                asked = [("picky_ask", [file]), ("picky_ask", ["--chain", file, file]), ("picky_ask", [])]
+                rt.write_text(f"#!/bin/sh\ncp \"${{7#*=}}\" {rows}\nprintf '0 rsa-md5 1\\nrsa-md5 2\\n0 \\n1 refused NotMz\\n'\n{ended}")
+                programs.expect(asked)
+                self.assertEqual(rows.read_text().splitlines()[0], "picky_ask 65536 - f0=0102 f0")
+                self.assertEqual([programs.run(*call, "")[2:] for call in asked], [(0, "rsa-md5 1\nrsa-md5 2\n"), (0, ""), (1, "refused NotMz\n")])
+                file.write_bytes(bytes(10_000))
+                rt.write_text(f"#!/bin/sh\ncp \"${{7#*=}}\" {rows}\nprintf '0 \\n'\n{ended}")
+                programs.expect(asked[:1])
+                self.assertEqual(rows.read_text().split()[1], "100000")
+                rt.write_text(f"#!/bin/sh\necho alone\n{ended}")
+                file.write_bytes(b"\3")
+                self.assertEqual(programs.run(*calls[0], "")[2:], (0, "alone\n"))
+                with self.assertRaises(NotChecked):
+                    programs.expect(calls)
+
+    def test_other_files(self):
+        for octets, what in (
+            (b"\x7fELF" + bytes(60), "program of Linux"), (b"PK\x03\x04" + bytes(60), "zip archive"), (b"MSCF" + bytes(60), "cabinet"),
+            (bytes.fromhex("d0cf11e0a1b11ae1") + bytes(60), ".msi"), (b"-----BEGIN PKCS7-----\n", "PEM"), (b"", "an empty file"),
+            (b"Write-Host\n# SIG # Begin signature block\n", "signed script"), (signed_programs.root(), "a certificate"),
+            (STORED["three"].file().octets, "WIN_CERTIFICATE"), (catalogue(), "a catalogue"),
+        ):
+            report = checked(octets)
+            self.assertEqual((report.verdict, report.reason, report.status), ("refused", "NotMz", 1), what)
+            self.assertIn(what, report.sentence + report.next)
+        self.assertEqual(kinds.of(b"hello"), (None, None))
+        self.assertEqual(checked(portable_executable()).reason, "NoTable")
+
+
+
+
+def catalogue():
+    return next(octets for known, _, octets in world_signatures.stored() if "catalogue" in known)
+
+class WordsTest(unittest.TestCase):
+    """What counts as words of a call."""
+
+    @staticmethod
+    def said(*words, main=check_program.main):
+        with redirect_stdout(StringIO()) as out, redirect_stderr(StringIO()) as errors:
+            status = main([str(word) for word in words])
+        return status, out.getvalue(), errors.getvalue()
+
+    def test_wrong_words(self):
+        for words in (
+            [], ["--json"], ["a", "b"], ["a", "--at"], ["a", "--at", "tomorrow"], ["a", "--at", "2023-02-29"], ["a", "--at", "2023-06-15T24:00:00"],
+            ["a", "--at", "2023-06-15Z"], ["a", "--at", "\u0662\u0660\u0662\u0663-06-15"], ["a", "--at", "2023-06-15", "--at", "2023-06-15"], ["a", "--root"],
+            ["a", "--root", "--json"], ["--rot", "a"], ["--roo", "b", "a"], ["a", "--digest", "0"], ["a", "--digest", "xy"],
+            ["a", "--programs", "b", "--programs", "c"], ["a", "--", "b"], ["--"], ["--json=1", "a"],
+        ):
+            status, out, errors = self.said(*words)
+            self.assertEqual((status, out), (2, ""), words)
+            self.assertIn("usage:", errors)
+
+    def test_words(self):
+        found = check_program.words_of(["p", "--root", "a", "--root=b", "--json", "--stamp-root", "c"])
+        self.assertEqual((found.program, found.root, found.json, found.stamp_root, found.tried), ("p", ["a", "b"], True, ["c"], False))
+        found = check_program.words_of(["--root", "a", "p", "--at=2025-01-31T23:59:59Z"])
+        self.assertEqual((found.program, found.root, found.at), ("p", ["a"], "2025-01-31T23:59:59"))
+        for word in "-h", "--help", "--json", "--root=x", "-":
+            self.assertEqual(check_program.words_of(["--root", "a", "--", word]).program, word)
+        for word in "2024-02-29", "0000-02-29", "9999-12-31T23:59:59":
+            self.assertEqual(check_program.date(word), word)
+
+    def test_help(self):
+        """It is asked for by the sole word; a file of that name has no status 0."""
+        for tool, many in (check_program, 1), (order_bag, 2), (signed_program, 2), (ordered_program, 3), (pool_questions, 1):
+            for word in "-h", "--help":
+                status, out, errors = self.said(word, main=tool.main)
+                self.assertEqual((status, out.strip(), errors), (0, tool.__doc__.strip(), ""), tool.__name__)
+                for words in [word, "x"], ["x", word], ["x", "y", word], [word, word], ["--root", "r", word]:
+                    status, out, errors = self.said(*words, main=tool.main)
+                    self.assertEqual((status, out), (2, ""), (tool.__name__, words))
+                    self.assertIn("usage:", errors)
+                status, out, errors = self.said("--", word, *["/none/x"] * (many - 1), main=tool.main)
+                self.assertNotEqual(status, 0, tool.__name__)
+                self.assertIn(f"{word}: No such file", errors, tool.__name__)
+
+    def test_help_of_a_script(self):
+        """The same of the script that is started."""
+        for words, status in (["--help"], 0), (["-h", "--root", "x"], 2), (["--root", "x", "--help"], 2), (["--", "-h"], 4):
+            done = subprocess.run([sys.executable, TOOLS / "check_program.py", *words], capture_output=True, cwd="/", env=os.environ | {"SSL_CERT_FILE": "/none"})
+            self.assertEqual((done.returncode, bool(done.stdout)), (status, not status), words)
+
+    def test_digest_says_what_it_has_seen(self):
+        file = STORED["three"].file()
+        self.assertIn("signed a program with this digest", checked(file.octets, digest=file.file_hash.hex()).sentence)
+        self.assertIn("signed this program", checked(STORED["three"].octets).sentence)
+
+
+def folder_of_stubs(folder, **scripts):
+    """Programs that are scripts of the shell, in a folder."""
+    for name, script in scripts.items():
+        file = Path(folder, name)
+        file.write_text(f"#!/bin/sh\n{script}\n")
+        file.chmod(0o755)
+
+
+class EndTest(unittest.TestCase):
+    """How a call ends where something outside goes wrong, as a process of its own."""
+
+    ASKS, REFUSES = "exit 0", "echo 'refused SignatureError'; exit 1"
+
+    def files(self, folder):
+        program, root, stubs = Path(folder, "one.exe"), Path(folder, "root.der"), Path(folder, "stubs")
+        program.write_bytes(STORED["three"].octets)
+        root.write_bytes(signed_programs.root())
+        stubs.mkdir()
+        folder_of_stubs(stubs, picky_ask=self.ASKS, picky_pe=self.REFUSES, picky_anchor="echo 'refused NoAnchoredPath'; exit 1", picky=self.REFUSES)
+        Path(folder, "tmp").mkdir()
+        return program, root, stubs
+
+    def started(self, folder, program, root, stubs, *words, **how):
+        called = [sys.executable, TOOLS / "check_program.py", program, "--root", root, "--programs", stubs, "--at", "2023-06-15", *words]
+        return subprocess.Popen(called, stdin=subprocess.DEVNULL, env=os.environ | {"TMPDIR": str(Path(folder, "tmp"))}, **how)
+
+    def ended(self, folder, *files, **how):
+        with self.started(folder, *files, **{"stdout": subprocess.PIPE, "stderr": subprocess.PIPE} | how) as process:
+            out, errors = process.communicate(timeout=100)
+        self.assertNotIn(b"Traceback", errors or b"")
+        self.assertEqual(list(Path(folder, "tmp").iterdir()), [])
+        return process.returncode, out, errors
+
+    def test_refused(self):
+        with TemporaryDirectory() as folder:
+            status, out, _ = self.ended(folder, *self.files(folder))
+            self.assertEqual(status, 1)
+            self.assertIn(b"\nrefused: ", out)
+
+    def test_closed_output(self):
+        with TemporaryDirectory() as folder:
+            files = self.files(folder)
+            begin, end = os.pipe()
+            os.close(begin)
+            self.assertEqual(self.ended(folder, *files, stdout=end)[0], 5)
+            os.close(end)
+            called = [sys.executable, str(TOOLS / "check_program.py"), str(files[0]), "--root", str(files[1]), "--programs", str(files[2])]
+            done = subprocess.run(["sh", "-c", 'exec "$@" >&-', "sh", *called], capture_output=True)
+            self.assertEqual((done.returncode, b"Traceback" in done.stderr), (5, False))
+
+    @unittest.skipUnless(Path("/dev/full").exists(), "there is no /dev/full")
+    def test_full_output(self):
+        with TemporaryDirectory() as folder, open("/dev/full", "wb") as full:
+            self.assertEqual(self.ended(folder, *self.files(folder), stdout=full)[0], 5)
+
+    def test_no_regular_file(self):
+        """A FIFO and a device are refused at once, as PROGRAM and as a root."""
+        with TemporaryDirectory() as folder:
+            program, root, stubs = self.files(folder)
+            pipe = Path(folder, "pipe")
+            os.mkfifo(pipe)
+            for one, two in (pipe, root), (program, pipe), (Path("/dev/zero"), root):
+                status, out, errors = self.ended(folder, one, two, stubs)
+                self.assertEqual((status, out), (4, b""))
+                self.assertIn(b"isn't a regular file", errors)
+            for tool in "order_bag.py", "signed_program.py":
+                done = subprocess.run([sys.executable, TOOLS / tool, pipe, Path(folder, "out")], capture_output=True, timeout=100)
+                self.assertEqual((done.returncode, b"isn't a regular file" in done.stderr), (1, True), tool)
+
+    def test_signals(self):
+        """What was written for the call is removed, and it ends by the signal; so does the program that it waits for."""
+        for number in signal.SIGTERM, signal.SIGINT, signal.SIGHUP:
+            with TemporaryDirectory() as folder:
+                program, root, stubs = self.files(folder)
+                folder_of_stubs(stubs, picky_pe=f"echo $$ > {folder}/waits; exec sleep 1000")
+                with self.started(folder, program, root, stubs, stdout=subprocess.PIPE, stderr=subprocess.PIPE) as process:
+                    waits = Path(folder, "waits")
+                    while not (waits.exists() and waits.read_text().strip()):
+                        self.assertIsNone(process.poll())
+                        sleep(0.05)
+                    process.send_signal(number)
+                    _, errors = process.communicate(timeout=100)
+                self.assertNotIn(b"Traceback", errors)
+                self.assertEqual((process.returncode, list(Path(folder, "tmp").iterdir())), (-number, []))
+                self.assert_ended(int(waits.read_text()))
+
+    def assert_ended(self, pid):
+        for _ in range(100):
+            status = Path(f"/proc/{pid}/status")
+            if not status.exists() or re.search(r"^State:\s+Z", status.read_text(), re.MULTILINE):
+                return
+            sleep(0.05)
+        self.fail("the program still runs")
+
+    def test_programs_without_an_answer(self):
+        """One that is killed, or can't start, answers nothing: status 2."""
+        for name in "picky_pe", "picky_anchor", "picky_ask":
+            with TemporaryDirectory() as folder:
+                program, root, stubs = self.files(folder)
+                folder_of_stubs(stubs, **{name: "kill -9 $$"})
+                status, out, errors = self.ended(folder, program, root, stubs)
+                self.assertEqual((status, out), (2, b""), name)
+                self.assertIn(f"{name} was ended by the signal SIGKILL".encode(), errors)
+                for octets in b"\x7fELF none", b"#!/none/interpreter\n":
+                    Path(stubs, name).write_bytes(octets)
+                    status, out, errors = self.ended(folder, program, root, stubs)
+                    self.assertEqual((status, out), (2, b""), name)
+                    self.assertIn(f"{name} can't be started".encode(), errors)
+
+
+class TryTest(unittest.TestCase):
+    """What --try says of itself."""
+
+    def tried(self, script):
+        with TemporaryDirectory() as folder:
+            folder_of_stubs(folder, rt=script)
+            file = Path(folder, "file")
+            file.write_bytes(b"")
+            with patch.dict(os.environ, {"PATH": folder + os.pathsep + os.environ["PATH"]}):
+                return Tried().run("picky_pe", [file], "picky_pe")
+
+    def test_a_run_that_is_ended(self):
+        with self.assertRaises(NotChecked) as refusal:
+            self.tried("echo 'run=no-answer proved=no' >&2; exit 2")
+        self.assertEqual(refusal.exception.status, 2)
+        self.assertIn("it gives one 600 seconds and 1 MiB of output", str(refusal.exception))
+
+    def test_the_limit_is_said_to_rt(self):
+        answer = self.tried("echo \"refused $(echo \"$*\" | tr -dc 'a-z0-9')\"; echo 'run=ended status=1 proved=no' >&2; exit 1")
+        self.assertIn("seconds600", answer.line())
+
+    def test_it_says_so_at_once(self):
+        """Ahead of anything that it does: here even ahead of a file that isn't there."""
+        with redirect_stdout(StringIO()) as out, redirect_stderr(StringIO()) as errors:
+            status = check_program.main(["none", "--root", "none", "--try"])
+        first, second = errors.getvalue().splitlines()
+        self.assertEqual((status, out.getvalue(), first.startswith("check_program.py: --try runs the programs from their sources")), (4, "", True))
+        self.assertIn("none: No such file", second)
+
+
+if __name__ == "__main__":
+    unittest.main()
