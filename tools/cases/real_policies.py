@@ -9,7 +9,7 @@ order, with each option, and with one octet changed.
 from cases import basic_world
 from cases.check_making import File
 from interop import signed_programs, world_signatures
-from judges.asked_signatures import NotASignatureFile
+from common.signed_data import NotASignatureFile
 from judges.basic_judge import Refused, certificate_in, signed_data_in
 from judges.check_judge import Policy, answer, dated, signer_of
 from order_bag import with_ordered_bag
