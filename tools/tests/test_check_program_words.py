@@ -310,6 +310,8 @@ class EndTest(unittest.TestCase):
                     while not (waits.exists() and waits.read_text().strip()):
                         self.assertIsNone(process.poll())
                         sleep(0.05)
+                    # Until Python has returned from starting it.
+                    sleep(1)
                     process.send_signal(number)
                     _, errors = process.communicate(timeout=100)
                 self.assertNotIn(b"Traceback", errors)
