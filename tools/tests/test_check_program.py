@@ -5,14 +5,10 @@
 The programs are the reference implementations in Python (`programs_stand_in`), or stubs that answer otherwise.
 """
 
-import json
-import os
 import re
 import subprocess
 import sys
 import unittest
-from contextlib import redirect_stderr, redirect_stdout
-from io import StringIO
 from itertools import permutations
 from pathlib import Path
 from shutil import which
@@ -34,10 +30,10 @@ from gate.programs_stand_in import StandIn
 from interop import signed_images, signed_programs, world_signatures
 from interop.signature_making import portable_executable
 from judges import question_judge
-from judges.der_reader import Constructed, Primitive, read_exact, write
-from program_check import anchors, asking, kinds, programs, reasons, stamps, text
+from judges.der_reader import Constructed, read_exact
+from program_check import anchors, asking, programs, reasons, stamps
 from program_check.certificate import Certificate
-from program_check.programs import Answer, Disagreement, NotChecked, Programs, Tried
+from program_check.programs import Answer, Disagreement, NotChecked, Programs
 from program_check.report import Report
 from program_check.roots import Root, Roots
 from program_check.signature import Signature

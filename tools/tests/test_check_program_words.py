@@ -269,6 +269,15 @@ class EndTest(unittest.TestCase):
             self.assertEqual(status, 1)
             self.assertIn(b"\nrefused: ", out)
 
+    def test_no_questions(self):
+        """What `picky_ask` prints is looked at line by line: anything else than questions is a disagreement."""
+        for script in "echo none", "printf 'rsa-sha256 %064d %064d %064d 00 00 00' 1 2 3", "echo 'accepted parents=0'", "echo 'refused some thing'; exit 1", "echo none; exit 9":
+            with TemporaryDirectory() as folder:
+                program, root, stubs = self.files(folder)
+                folder_of_stubs(stubs, picky_ask=script)
+                status, out, _ = self.ended(folder, program, root, stubs)
+                self.assertEqual((status, b"refused: the programs disagree: picky_ask" in out), (1, True), script)
+
     def test_closed_output(self):
         with TemporaryDirectory() as folder:
             files = self.files(folder)
@@ -310,6 +319,8 @@ class EndTest(unittest.TestCase):
                     while not (waits.exists() and waits.read_text().strip()):
                         self.assertIsNone(process.poll())
                         sleep(0.05)
+                    # Until Python has returned from starting it.
+                    sleep(1)
                     process.send_signal(number)
                     _, errors = process.communicate(timeout=100)
                 self.assertNotIn(b"Traceback", errors)

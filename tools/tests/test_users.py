@@ -479,8 +479,8 @@ class SignedProgramTest(unittest.TestCase):
         for places, octet, why in (
             ([at + 10 for at in digests], 9, "its signature names 2.16.840.1.101.3.4.2.9, a digest algorithm that isn't known here; give DIGEST"),
             ([contents + 11], 9, "its signature is of no program; give DIGEST"),
-            ([data - 4], 0x04, "its signature names no digest algorithm; give DIGEST"),
-            ([8], 0x3f, "its signature isn't read, its certificate isn't one element of DER: HighTag at 0; give DIGEST"),
+            ([data - 4], 0x04, "its signature isn't read, its certificate isn't signed data; give DIGEST"),
+            ([8], 0x3f, "its signature isn't read, its certificate isn't one element of DER: 3F is no tag that is read here; give DIGEST"),
         ):
             changed = bytearray(self.program("program, RSA, sha256"))
             begin = len(changed) - len(entry)
