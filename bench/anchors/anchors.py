@@ -5,7 +5,7 @@ Usage:
 
     python3 bench/anchors/anchors.py [--repetitions N] [--certificates N] [--anchors N] PROGRAM
 
-PROGRAM is the executable of the crate `xgolden_anchor`.  A pool has N certificates of
+PROGRAM is the executable of the crate `xgolden_run`.  A pool has N certificates of
 one name and key (256 by default), each of which may have issued each other one, and N
 anchors of that name and another key (64 by default), so that there is no path:
 
@@ -112,7 +112,7 @@ def calls_in(profile, name):
 def counted(program, file):
     """How many signatures the program verifies, by valgrind."""
     profile = file.with_suffix(".callgrind")
-    words = "valgrind", "--tool=callgrind", f"--callgrind-out-file={profile}", program, file
+    words = "valgrind", "--tool=callgrind", f"--callgrind-out-file={profile}", program, "anchor", file
     subprocess.run(words, check=True, capture_output=True)
     text = profile.read_text(encoding="utf-8", errors="replace")
     calls = next((calls for name in COUNTING if (calls := calls_in(text, name))), None)
@@ -150,7 +150,7 @@ def report(program, options, folder):
     for kind in KINDS:
         file.write_text(" ".join(drawn_row(kind, options.certificates, options.anchors)) + "\n", encoding="ascii")
         make_files(folder, kind, options.certificates, options.anchors)
-        commands = ([program, file], lambda done: done.stdout == b"none\n"), *others(go, folder)
+        commands = ([program, "anchor", file], lambda done: done.stdout == b"none\n"), *others(go, folder)
         times = [f"{milliseconds(*one, options.repetitions):.0f}" for one in commands]
         steps = counted(program, file)
         print(f"| {kind} | {options.certificates} | {options.anchors} | {steps:,} | {most:,} | {' | '.join(times)} |", flush=True)
@@ -163,7 +163,7 @@ def main(words):
     parser.add_argument("--repetitions", type=int, default=5)
     parser.add_argument("--certificates", type=int, default=256)
     parser.add_argument("--anchors", type=int, default=64)
-    parser.add_argument("program", type=command.executable, help="path of xgolden_anchor")
+    parser.add_argument("program", type=command.executable, help="path of xgolden_run")
     options = parser.parse_args(words)
     with tempfile.TemporaryDirectory() as name:
         return 0 if report(str(options.program.resolve()), options, Path(name)) else 1

@@ -81,7 +81,7 @@ directory = "{REGISTRY}"
 # The programs.
 
 def built(folder):
-    """The paths of the three other programs."""
+    """The words that call the three other programs."""
     rust = folder / "rust"
     (rust / ".cargo").mkdir(parents=True)
     (rust / "Cargo.toml").write_text(CARGO.format(source=HERE / "certificates.rs"))
@@ -93,14 +93,14 @@ def built(folder):
     ]
     for words, place in commands:
         subprocess.run(words, check=True, cwd=place, stderr=subprocess.DEVNULL if words[0] == "cargo" else None)
-    return [rust / "target/release/certificates", folder / "c", folder / "go"]
+    return [[rust / "target/release/certificates"], [folder / "c"], [folder / "go"]]
 
 
 def asked(programs, file, times):
     """What the programs print: by its way, which certificates are read, and the nanoseconds."""
     answers = {}
     for program in programs:
-        printed = subprocess.run([program, file, str(times)], check=True, stdout=subprocess.PIPE, text=True).stdout
+        printed = subprocess.run([*program, file, str(times)], check=True, stdout=subprocess.PIPE, text=True).stdout
         for line in printed.splitlines():
             way, which, nanos, _ = line.split()
             answers[way] = which, int(nanos)
@@ -198,7 +198,7 @@ def main(words):
     options = parser.parse_args(words)
     with tempfile.TemporaryDirectory() as name:
         folder = Path(name)
-        program = options.program.resolve()
+        program = [options.program.resolve(), "time", "certificate"]
         kept = speeds([program, *built(folder)], folder, options)
         kept &= growth(program, folder, options)
     return 0 if kept else 1

@@ -194,7 +194,7 @@ def main(words):
         folder = Path(name)
         others = built(folder)
         now, octets = files(folder)
-        programs = {"ours": [options.program.resolve(), folder / "row", options.times]}
+        programs = {"ours": [options.program.resolve(), "time", "issuing", folder / "row", options.times]}
         programs |= {name: [path, folder / "octets", options.times, now] for name, path in others.items()}
         nanos = medians(programs, options)
     print(f"{octets} octets of certificates; {options.rounds} rounds of {options.times}; load {os.getloadavg()[0]:.0f}\n")

@@ -72,7 +72,7 @@ def loads(program, case, folder):
     source.write_text(LIBRARY)
     subprocess.run(["gcc", "-O1", "-shared", "-fPIC", f"-DLENGTH={len(octets)}", source, "-o", library], check=True)
     log = folder / "log"
-    words = ["valgrind", "--tool=lackey", "--trace-mem=yes", f"--log-file={log}", program, str(row)]
+    words = ["valgrind", "--tool=lackey", "--trace-mem=yes", f"--log-file={log}", program, "run", str(row)]
     ran = subprocess.run(words, env={**os.environ, "LD_PRELOAD": str(library)}, capture_output=True, check=True)
     if ran.stdout != b"0 " + case.answer:
         raise command.Refusal(f"{program}: {ran.stdout.decode()}")

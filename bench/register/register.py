@@ -6,7 +6,7 @@ Usage:
     python3 bench/register/register.py [--rounds N] [--times N] [--entries N] PROGRAM
     python3 bench/register/register.py [--rounds N] --lines PICKY_CA
 
-PROGRAM is the executable of the crate `xgolden_register`.  A register has a root, a line of CAs below
+PROGRAM is the executable of the crate `xgolden_run`.  A register has a root, a line of CAs below
 it, and certificates of the last CA.  Two markdown tables are printed.  The first is of registers of 200
 entries and of an eighth, a quarter, half and all of N (100,000 by default) with ten ancestors each:
 microseconds a certificate to issue and to verify, nanoseconds a call of `usable`, and the memory.  The
@@ -64,7 +64,7 @@ def row(entries, depth):
 
 def measured(program, file, entries, times):
     """The figures of one run."""
-    output = subprocess.run([*MEASURE, program, file, str(times)], stdout=subprocess.PIPE, check=True).stdout.decode("ascii")
+    output = subprocess.run([*MEASURE, program, "time", "register", file, str(times)], stdout=subprocess.PIPE, check=True).stdout.decode("ascii")
     line, last = output.rstrip("\n").rsplit("\n", 1)
     count, issued, usable, verified, accepted = map(int, line.split())
     _, _, memory, status = last.split()
@@ -113,7 +113,7 @@ def main(words):
     parser.add_argument("--times", type=int, default=100000)
     parser.add_argument("--entries", type=int, default=100000)
     parser.add_argument("--lines", action="store_true", help="PROGRAM is that of picky_ca")
-    parser.add_argument("program", type=command.executable, help="the executable of xgolden_register")
+    parser.add_argument("program", type=command.executable, help="the executable of xgolden_run")
     options = parser.parse_args(words)
     program = str(options.program.resolve())
     if options.lines:

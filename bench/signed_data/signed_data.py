@@ -5,7 +5,7 @@ Usage:
 
     python3 bench/signed_data/signed_data.py [--rounds N] [--times N] PROGRAM
 
-PROGRAM is the path of `xgolden_cms`.  The script builds the other program from
+PROGRAM is the path of `xgolden_certificate`.  The script builds the other program from
 `signed_data.c`, with Debian's packages libssl-dev and libgnutls28-dev, and has
 openssl make a signature of some 12 KB: RSA of 4,096 bits, four certificates,
 and a token with its own, as an unsigned attribute.  Each program reads it so
@@ -132,7 +132,7 @@ def times_of(programs, file, times):
     """What the programs print: by its way, whether the file is read, and the nanoseconds."""
     answers = {}
     for program in programs:
-        printed = subprocess.run([program, file, str(times)], check=True, stdout=subprocess.PIPE, text=True).stdout
+        printed = subprocess.run([*program, file, str(times)], check=True, stdout=subprocess.PIPE, text=True).stdout
         for line in printed.splitlines():
             way, is_read, nanos, _ = line.split()
             assert is_read == "1", way
@@ -144,14 +144,14 @@ def main(words):
     parser = argparse.ArgumentParser(description="Time to read signed data.")
     parser.add_argument("--rounds", type=int, default=7)
     parser.add_argument("--times", type=int, default=2000)
-    parser.add_argument("program", type=command.executable, help="path of xgolden_cms")
+    parser.add_argument("program", type=command.executable, help="path of xgolden_certificate")
     options = parser.parse_args(words)
     with tempfile.TemporaryDirectory() as name:
         folder = Path(name)
         octets = signature(folder)
         file = folder / "stamped"
         file.write_bytes(octets)
-        programs = [options.program.resolve(), built(folder)]
+        programs = [[options.program.resolve(), "time", "cms"], [built(folder)]]
         times_of(programs, file, options.times)
         rounds = [times_of(programs, file, options.times) for _ in range(options.rounds)]
     nanos = {way: median(answers[way] for answers in rounds) / options.times for way in WAYS}

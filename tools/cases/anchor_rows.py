@@ -1,4 +1,4 @@
-"""Rows of `xgolden_anchor`: certificates, pools of parents and anchors, each with the reason why it is there.
+"""Rows of `xgolden_run`: certificates, pools of parents and anchors, each with the reason why it is there.
 
 The certificates are put together by hand, as those of `issuing_chains`; their signatures are those of the demonstration
 scheme.  The lines come from `anchor_judge`.

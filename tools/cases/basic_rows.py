@@ -1,4 +1,4 @@
-"""Signature files that differ from that of `first_path` in one part or another, for `xgolden_basic`.
+"""Signature files that differ from that of `first_path` in one part or another, for `xgolden_check`.
 
 Each row says what comes of it, by the steps that `basic_judge` lists.
 """

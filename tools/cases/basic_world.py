@@ -1,5 +1,5 @@
 #!/usr/bin/env python3
-"""The signatures of `world_signatures.txt` as signature files, each with its table, and with one octet changed, for `xgolden_basic`.
+"""The signatures of `world_signatures.txt` as signature files, each with its table, and with one octet changed, for `xgolden_check`.
 
 Usage:
 

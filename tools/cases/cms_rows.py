@@ -1,4 +1,4 @@
-"""Rows of `xgolden_cms`: elements in hexadecimal, and why each row is there.
+"""Rows of `xgolden_certificate`: elements in hexadecimal, and why each row is there.
 
 They are elements of RFC 2315 and of the Windows Authenticode Portable
 Executable Signature Format put together by hand.  The digests in them are

@@ -6,7 +6,7 @@ Usage:
     python3 tools/cases/demo_signatures.py rows
     python3 tools/cases/demo_signatures.py check
 
-`rows` prints the table of `crates/xtest_signature/src/demo_rows.rt`, `check`
+`rows` prints the table of `crates/xtest_value/src/demo_rows.rt`, `check`
 says whether that file has it.  Keys are made by the rules of
 `docs/FORMATS.md`, digests by Python's hashlib.
 """
@@ -19,7 +19,7 @@ sys.path.insert(0, str(Path(__file__).resolve().parents[1]))
 
 from common import command, folders
 
-FILE = folders.CRATES / "xtest_signature/src/demo_rows.rt"
+FILE = folders.CRATES / "xtest_value/src/demo_rows.rt"
 
 MESSAGE = b"message"
 

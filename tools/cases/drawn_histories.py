@@ -1,4 +1,4 @@
-"""Issuing histories drawn at random, each with a date, for `xgolden_histories`.
+"""Issuing histories drawn at random, each with a date, for `xgolden_issuing`.
 
 Most steps are issued by the step before, so that there are ancestors up to 20 deep.  The windows
 overlap the date, touch it, or miss it by a second; most parts are drawn so that they allow what is

@@ -1,4 +1,4 @@
-"""Calls of registers drawn at random, each register with a date, for `xgolden_register`.
+"""Calls of registers drawn at random, each register with a date, for `xgolden_run`.
 
 Most certificates are issued by the one before, by its key, so that there are ancestors up to 20 deep.
 Each reason to refuse a call is drawn too, alone and with others.  The validities overlap the date,

@@ -1,4 +1,4 @@
-"""Registers for `xgolden_register` that enrol requests of openssl, under RSA keys of openssl.
+"""Registers for `xgolden_run` that enrol requests of openssl, under RSA keys of openssl.
 
 The CA's keys and the request of the intermediate are those of `enrolling_keys.txt`, the other requests those of
 `world_requests.txt`.  `register_judge` says what each call returns and which certificates are accepted, `issuing_maker`

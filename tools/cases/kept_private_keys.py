@@ -10,7 +10,7 @@ point in `private_key_rows.txt`, and prints where it differs from that of a line
 here; and has it read what is written of each key there, and prints where that
 key is another.
 
-The rows of `xgolden_structure` on private keys and their lines, beside those of
+The rows of `xgolden_value` on private keys and their lines, beside those of
 `xgolden_value`.  A line has the kind, the octets in PKCS #8, whether a copy is
 equal, whether what is read of these octets is, the octets in PKCS #1 and those
 of the public key, or why there are none.

@@ -1,4 +1,4 @@
-"""Test vectors of `xgolden_pe`: programs of Windows and what isn't one, each with its reason."""
+"""Test vectors of `xgolden_run`: programs of Windows and what isn't one, each with its reason."""
 
 from dataclasses import dataclass
 from struct import pack

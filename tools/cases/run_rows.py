@@ -1,19 +1,19 @@
 """Rows of `xgolden_run` on failing shelves, sinks that are too small, and files at the greatest length, for all programs.
 
-A program is added by a line of `commands`; runs of `picky_anchor`, `picky_ask` and `picky_ca` have rows of their own too.  Status and line are those of docs/MANUAL.md; that a command is accepted
-is what the rules of each program say of the files, which other rows show.
+A program is added by a line of `commands`; each has rows of its own too (`OWN_ROWS`).  Status and line are those of
+docs/MANUAL.md; that a command is accepted is what the rules of each program say of the files, which other rows show.
 """
 
 from dataclasses import dataclass
 
-from cases import anchor_run_rows, ask_run_rows, ca_run_rows
+from cases import anchor_run_rows, ask_run_rows, ca_run_rows, image_run_rows, signature_run_rows
 from cases.anchor_rows import CODE, CROSS, INT, LEAF, ROOT
 from cases.anchor_run_rows import ROOM, SHELF, SINK, table_for
 from cases.check_making import file
 from cases.check_parts import DAY, LATER, S, T, I
 from cases.first_path import FILE_HASH, signature_file, verdict_line
 from cases.list_rows import list_with
-from golden.xgolden_pe_image import made
+from golden.image_vectors import made
 from judges import demo_maker
 
 TOO_LONG, BAD_TABLE = (6, ""), (3, "")
@@ -141,14 +141,20 @@ def of_command(one):
         yield ample, None, {**one.files, name: TOO_GREAT}, one.words, TOO_LONG
 
 
+OWN_ROWS = {
+    "picky_anchor": anchor_run_rows,
+    "picky_ask": ask_run_rows,
+    "picky_ca": ca_run_rows,
+    "picky": signature_run_rows,
+    "picky_pe": image_run_rows,
+}
+
+
 def rows():
     """Every row, and what is printed of it."""
-    for case in anchor_run_rows.all_cases():
-        yield row("picky_anchor", *case[:-1])
-    for case in ask_run_rows.all_cases():
-        yield row("picky_ask", *case[:-1])
-    for case in ca_run_rows.all_cases():
-        yield row("picky_ca", *case[:-1])
+    for program, cases in OWN_ROWS.items():
+        for case in cases.all_cases():
+            yield row(program, *case[:-1])
     for one in commands():
         for case in of_command(one):
             yield row(one.program, *case)

@@ -1,4 +1,4 @@
-"""Rows of signatures for `xgolden_structure`, and their lines: algorithms by their identifiers, what
+"""Rows of signatures for `xgolden_value`, and their lines: algorithms by their identifiers, what
 private keys sign, what is reported of signatures, identifiers of keys, and what is borrowed of keys.
 
 The rules are those of `docs/FORMATS.md`, digests are made by Python's hashlib.

@@ -1,4 +1,4 @@
-"""Rows of structures for `xgolden_structure`: elements in hexadecimal, and why each row is there.
+"""Rows of structures for `xgolden_value`: elements in hexadecimal, and why each row is there.
 
 They come from standards and from openssl, or are elements of X.690 put
 together by hand.

@@ -9,7 +9,8 @@ reads `CRATES/NAME/src` of each library and prints each public function by
 `&mut self` that returns a `Result`, and behind it the names of its clauses
 that say what the value is after an error, "contract" for one without a name.
 A caller who goes on after an error has to know what it is left with, so a
-call without such a clause is marked, and makes the exit status 1.
+call without such a clause is marked, and makes the exit status 1; where there
+is no library it is 2.
 
 Such a clause has `self.new` in what it says of an `Err`: in the argument of
 `OnErr result` or `IfErr result`, or in the second one of `MatchResult result`.
@@ -20,13 +21,13 @@ where it has clauses of its own, which then stand in place of the trait's.
 
 import re
 import sys
-from dataclasses import dataclass
+from dataclasses import dataclass, field
 from pathlib import Path
 
 sys.path.insert(0, str(Path(__file__).resolve().parents[1]))
 
 from common import command
-from common.sources import is_library
+from common.sources import libraries
 from gate.crate_readmes import CLAUSE, FUNCTION, end_of, header_of, masked, next_stop
 
 BLOCK = re.compile(r"(?m)^(?P<public>pub )?(?:unsafe )?(?P<kind>trait|impl)\b")
@@ -36,12 +37,13 @@ UNCHANGED = re.compile(r"\(?\s*self\.new\s*≡\s*self\.old\s*\)?")
 
 @dataclass
 class Call:
-    """A function by `&mut self` that may fail, and the names of its clauses on the value after an error."""
+    """A function by `&mut self` that may fail, and the names and the texts of its clauses on the value after an error."""
 
     crate: str
     block: str
     name: str
     clauses: list
+    said: list = field(default_factory=list)
 
     def __str__(self):
         said = ", ".join(self.clauses) or "NOTHING is said of the value after an error"
@@ -105,16 +107,16 @@ def calls_of(crate, text):
             elif of_trait:
                 is_public = clauses
             if is_public and may_fail(head):
-                said = [name or "contract" for kind, name, clause in clauses if kind == "ensures" and is_on_error(clause)]
-                yield Call(crate, f"{name} as {of_trait}" if of_trait else name, function["name"], said)
+                said = [(name or "contract", clause) for kind, name, clause in clauses if kind == "ensures" and is_on_error(clause)]
+                names, texts = ([pair[at] for pair in said] for at in (0, 1))
+                yield Call(crate, f"{name} as {of_trait}" if of_trait else name, function["name"], names, texts)
 
 
 def calls(crates):
     """All such calls of the libraries among the crates."""
-    for crate in sorted(Path(crates).iterdir()):
-        if is_library(crate):
-            for file in sorted(crate.glob("src/**/*.rt")):
-                yield from calls_of(crate.name, file.read_text(encoding="utf-8"))
+    for crate in libraries(Path(crates)):
+        for file in sorted(crate.glob("src/**/*.rt")):
+            yield from calls_of(crate.name, file.read_text(encoding="utf-8"))
 
 
 def main(words):
@@ -124,7 +126,8 @@ def main(words):
     silent = [call for call in found if not call.clauses]
     for call in found:
         print(call)
-    print(f"calls that change a value and may fail: {len(found)}, {len(silent)} of them without a clause on the value after an error")
+    number = len(libraries(Path(words[0])))
+    print(f"calls that change a value and may fail: {len(found)} in {number} libraries, {len(silent)} of them without a clause on the value after an error")
     return 1 if silent else 0
 
 

@@ -8,8 +8,9 @@ Usage:
 
 FOLDER has `libpicky_door.a`, and `liblibc_c.a` or the kit does, whose `rt` is on the path.
 With it the callers check the stored signature and the stored program of `crates/picky` and
-`crates/picky_pe`, as they are, with octets changed, and with words for each status; with
-`--stand-in` a library in C takes its place, which shows what comes in.  Each table goes as
+`crates/picky_pe`, as they are, with octets changed, and with words for each status, and answer
+as the built programs of crates/NAME/out do over files; with `--stand-in` a library in C takes
+its place, which shows what comes in.  Each table goes as
 octets and by a handle, which is made, kept, replaced and freed.  The caller in C also has
 buffers of each length, and each request for memory refused in turn.  The symbols of the
 library are those of `picky.h`, and what `bindings/install.sh` installs is found by
@@ -44,7 +45,7 @@ WITH_HANDLES, WITH_LONG = 13, 2
 
 
 class Case(NamedTuple):
-    """The words of a caller, with octets in the place of files, and what it prints; None where it is that of the caller in C."""
+    """The words of a caller, with octets in the place of files, and what it prints; None where it is what the program answers."""
 
     kind: str
     files: tuple
@@ -119,6 +120,30 @@ def changed(chance, octets):
     place = chance.randrange(len(found))
     found[place] ^= 1 << chance.randrange(8)
     return bytes(found)
+
+
+def files_by_name(case):
+    """The files of a case by the names that its words have for them."""
+    octets = [it or b"" for it in case.files]
+    if case.kind in ("check", "pe"):
+        return dict(zip(("SIG" if case.kind == "check" else "PROGRAM", "TABLE", "LIST"), octets))
+    pool, at, found = octets[0], 0, {} if case.kind == "ask" else {"TABLE": octets[1]}
+    for place, length in enumerate(map(int, octets[2].split())):
+        found[str(place)], at = pool[at:at + length], at + length
+    return found
+
+
+def by_program(case, crates=folders.CRATES):
+    """What a caller prints where the call answers as the built program does over these files."""
+    name = {"pe": "picky_pe", "ask": "picky_ask"}.get(case.kind, "picky")
+    program = crates / name / "out" / name
+    if not program.is_file():
+        raise command.Refusal(f"{program} isn't there, which says what is expected")
+    with TemporaryDirectory() as folder:
+        for file, octets in files_by_name(case).items():
+            Path(folder, file).write_bytes(octets)
+        done = subprocess.run([program, *case.words], cwd=folder, stdin=subprocess.DEVNULL, capture_output=True, timeout=60)
+    return f"{done.returncode} {done.stdout.decode()}"
 
 
 def of_library():
@@ -267,8 +292,11 @@ def compared(library, cases, folder, is_stand_in):
     def in_c_alone(case):
         return answer(first, case, folder)
 
+    # What is expected of a call comes from a program; the stand-in's cases say it themselves.
+    expected_of = in_c_alone if is_stand_in else by_program
+
     def without(case):
-        return "4 " if is_stand_in else without_table(in_c_alone, case)
+        return "4 " if is_stand_in else without_table(expected_of, case)
 
     long_text = long_table(cases[0].files[1])
     (folder / "long").write_bytes(long_text)
@@ -277,10 +305,12 @@ def compared(library, cases, folder, is_stand_in):
         if name != "C" and answer(caller, case, folder) != "2 ":
             yield f"{name}: a word with a newline"
     for number, case in enumerate(cases):
-        pairs = [({}, case.printed if case.printed is not None else in_c_alone(case))]
+        pairs = [({}, case.printed if is_stand_in else expected_of(case))]
+        if case.printed not in (None, pairs[0][1]):
+            yield f"the program: {case.kind} {' '.join(case.words)[:80]}: {pairs[0][1]!r}, not {case.printed!r}"
         if case.kind != "ask" and number < WITH_HANDLES:
             steps = STEPS if number < WITH_LONG else STEPS.replace("lc", "")
-            pairs.append(({"STEPS": steps, "LONG": str(folder / "long")}, by_steps(steps, in_c_alone, without, case, long_text)))
+            pairs.append(({"STEPS": steps, "LONG": str(folder / "long")}, by_steps(steps, expected_of, without, case, long_text)))
         for environment, expected in pairs:
             for name, caller in callers.items():
                 found = answer(caller, case, folder, **environment)
@@ -292,7 +322,7 @@ def compared(library, cases, folder, is_stand_in):
     refused = [answer([folder / "refused"], case, folder) for case in cases[:WITH_HANDLES]]
     yield from (f"each request refused: {printed}" for printed in refused if not re.fullmatch(r"\d+ \d+ \d+\n", printed))
     counts = [tuple(map(int, printed.split())) for printed in refused if printed[:1].isdigit()]
-    print(f"calls of the library by {', '.join(callers)}; left out: {', '.join(left_out) or 'none'}; requests for memory refused: {sum(map(sum, counts))}")
+    print(f"{len(cases)} calls of the library by {', '.join(callers)}; left out: {', '.join(left_out) or 'none'}; requests for memory refused: {sum(map(sum, counts))}")
 
 
 def main(words):

@@ -19,7 +19,7 @@ writes in each `CRATES/NAME/README.md` two parts from the sources:
 
 With `--check` it writes nothing, names each README that is out of date and
 each library that has none, and ends with the status 1 where there is one.
-Status 2: the arguments or a file can't be used.
+Status 2: the arguments or a file can't be used, or there is no library.
 
 Public is what `src/lib.rt` exports, and each `extern "C"` function.  Left out are what a derive or another
 macro writes, and `Drop` and `Model`, which promise nothing.
@@ -32,7 +32,8 @@ from pathlib import Path
 
 sys.path.insert(0, str(Path(__file__).resolve().parents[1]))
 
-from common.sources import COMMENT_OR_TEXT, is_library
+from common.command import Refusal
+from common.sources import COMMENT_OR_TEXT, libraries
 
 NO_PROMISE = {"Drop", "Model"}
 START, END = "<!-- calls -->", "<!-- /calls -->"
@@ -46,7 +47,7 @@ TYPE = re.compile(r"(?:pub(?:\([^)]*\))?\s+)?(?P<kind>struct|enum|union|trait)\s
 ALIAS = re.compile(r"(?:pub(?:\([^)]*\))?\s+)?type\s+(?P<name>\w+)")
 
 
-class Unusable(Exception):
+class Unusable(Refusal):
     """Arguments or a file that can't be used."""
 
 
@@ -391,11 +392,10 @@ def main(arguments):
     if not crates.is_dir():
         print(f"crate_readmes.py: {crates} is no folder", file=sys.stderr)
         return 2
-    stale = []
+    stale, read = [], []
     try:
-        for crate in sorted(crates.iterdir()):
-            if not is_library(crate):
-                continue
+        read = libraries(crates)
+        for crate in read:
             readme = crate / "README.md"
             if not readme.is_file():
                 stale.append(f"{crate.name} has no README.md")
@@ -407,13 +407,13 @@ def main(arguments):
             elif wanted != text:
                 readme.write_text(wanted, encoding="utf-8")
                 print(f"{readme} is written")
-    except (Unusable, OSError, UnicodeDecodeError) as why:
+    except (Refusal, OSError, UnicodeDecodeError) as why:
         print(f"crate_readmes.py: {why}", file=sys.stderr)
         return 2
     if is_check:
         for line in stale:
             print(line)
-        print(f"READMEs that are out of date: {len(stale)}")
+        print(f"READMEs that are out of date: {len(stale)}, of {len(read)}")
         return 1 if stale else 0
     return 0
 

@@ -56,6 +56,8 @@ def main(words):
         raise command.Refusal("usage: door_library.py CRATES")
     crates, at = Path(words[0]).resolve(), kit()
     over = libraries(crates)
+    if NAME not in over:
+        raise command.Refusal(f"{crates.parent / 'crates.txt'} has no {NAME}")
     built = {name: crates / name / "out/rlib" for name in below(NAME, over, [])}
     missing = [name for name, folder in built.items() if not (folder / f"{name}.rlib").exists()]
     if missing:
@@ -75,7 +77,7 @@ def main(words):
         print(done.stdout[-3000:], file=sys.stderr)
         print(f"{NAME} isn't proved or built")
         return 1
-    print(f"{NAME}: {said[-1].split(' sum=')[0]}; {archive.stat().st_size:,} octets")
+    print(f"{NAME}: {said[-1].split(' sum=')[0]}; over {len(built)} libraries; {archive.stat().st_size:,} octets")
     return 0
 
 

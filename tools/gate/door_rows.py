@@ -30,6 +30,7 @@ sys.path.insert(0, str(Path(__file__).resolve().parents[1]))
 
 from common import command, folders
 from golden import damaged_runs
+from golden.stored_run import stored
 
 BINDINGS = folders.ROOT / "bindings"
 # A program's name in the rows, and the kind of call; `picky chain` is another.
@@ -44,8 +45,8 @@ def hexadecimal(text):
 # Rows of xgolden_run.
 
 def call_of(program, room, files, words):
-    """The row of the caller in C for a row of `xgolden_run`; None where the library has no such call, or words are missing."""
-    if program not in KINDS or not words or (program == "picky" and words[0] == "demo"):
+    """The row of the caller in C for a row of `xgolden_run`; None where the library has no such call, or words are missing or empty."""
+    if program not in KINDS or not words or "" in words or (program == "picky" and words[0] == "demo"):
         return None
     kind = "chain" if words[:1] == ["chain"] else KINDS[program]
     words_at, words, given = words, list(words), {}
@@ -98,9 +99,8 @@ def wanted(text, room):
 
 
 def stored_runs():
-    rows = (folders.CRATES / "xgolden_run/data/rows").read_text().splitlines()
-    answers = damaged_runs.runs_in((folders.CRATES / "xgolden_run/stdout").read_text())
-    for row, text in zip(rows, answers, strict=True):
+    rows, lines = stored("xgolden_run", "run")
+    for row, text in zip(rows, damaged_runs.runs_in("\n".join(lines)), strict=True):
         program, room, fails, files, words = read_row(row)
         call = call_of(program, room, files, words) if fails == "-" else None
         if call:
@@ -128,8 +128,9 @@ def words_of(flags, digest, lower, upper, seconds):
 
 
 def stored_checks():
-    answers = iter((folders.CRATES / "xgolden_check/stdout").read_text().splitlines())
-    for case in (folders.CRATES / "xgolden_check/data/cases.txt").read_text().splitlines():
+    cases, lines = stored("xgolden_check", "check")
+    answers = iter(lines)
+    for case in cases:
         file, table, *policies = case.split(" ")
         text = "" if table == "-" else table.replace(":", " ").replace(";", "\n")
         for policy in policies:

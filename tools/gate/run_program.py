@@ -8,9 +8,9 @@ Usage:
 runs PROGRAM, the executable of the crate `picky`, once for each row below,
 in a fresh folder with the files of the row, and compares the exit status,
 the octets on standard output and standard error, which must stay empty.  Each
-run has a stack of 1 MiB.  Where PROGRAM is in crates/picky/out, the other programs
-are run so too, in crates/NAME/out/NAME, once for each of their commands in
-`run_rows.py`.
+run has a stack of 1 MiB.  The other programs are run so too, once for each of their
+commands in `run_rows.py`: in crates/NAME/out/NAME where PROGRAM is in crates/picky/out,
+else in the folder of PROGRAM.  It has failed where one of them isn't there.
 
 The contracts of `picky_check` speak of shelves and sinks, and stop where
 the system begins: at the words of the command line, the paths of files,
@@ -47,7 +47,7 @@ sys.path.insert(0, str(Path(__file__).resolve().parents[1]))
 from cases import basic_steps, basic_world, check_making, check_parts, check_rows, list_rows, run_rows
 from cases import issuing_chains as issued
 from cases.first_path import FILE_HASH, signature_file, verdict_line
-from common import command
+from common import command, folders
 from interop import chains, signed_programs, world_signatures
 from judges import check_judge, demo_maker
 
@@ -730,14 +730,23 @@ ROWS = [
 ]
 
 
+def path_of(name, program):
+    """Where another program is, beside `picky`."""
+    if program.parts[-3:] == ("picky", "out", "picky"):
+        return program.parents[2] / name / "out" / name
+    return program.parent / name
+
+
+def programs():
+    """The names of the other programs, by the sources of their `main`."""
+    return sorted(file.parents[1].name for file in folders.CRATES.glob("picky_*/src/main.rt"))
+
+
 def other_programs(program):
-    """The other programs beside this one, each with a row for a command; none where this one is elsewhere."""
-    if program.parts[-3:] != ("picky", "out", "picky"):
-        return
+    """The other programs beside this one, each with a row for a command."""
     for one in run_rows.commands():
         if one.program != "picky":
-            path = program.parents[2] / one.program / "out" / one.program
-            yield path, Row(f"{one.program}: {' '.join(one.words)}", one.words, one.status, f"{one.line}\n", one.files)
+            yield path_of(one.program, program), Row(f"{one.program}: {' '.join(one.words)}", one.words, one.status, f"{one.line}\n", one.files)
 
 
 def make_file(path, octets):
@@ -824,8 +833,14 @@ def main(arguments):
     if not os.access(program, os.X_OK) or not program.is_file():
         print(f"run_program.py: {arguments[0]} is no program", file=sys.stderr)
         return 2
+    missing = [name for name in programs() if not path_of(name, program).is_file()]
+    for name in missing:
+        print(f"{path_of(name, program)} isn't there")
     others = list(other_programs(program))
-    failed = count_failed("runs of the other programs", others) if others else 0
+    unasked = set(programs()) - {path.name for path, _ in others}
+    for name in sorted(unasked):
+        print(f"{name} has no row in run_rows.py")
+    failed = len(missing) + len(unasked) + count_failed(f"runs of {', '.join(programs())}", others)
     failed += count_failed("runs of the program", [(program, row) for row in ROWS])
     return 1 if failed else 0
 

@@ -10,7 +10,7 @@ that takes `alloc` or uses up `self`, and that no code calls: no test, no
 program, no other crate and no body but its own.  The contract of a call that
 takes memory is met by a body that always answers that there is none, so one
 caller at least has to see another answer.  Exit status 1 says that a call is
-listed.
+listed, and 2 that there is no library.
 
 A call is found by its name, since types aren't known here: a function by
 `name(`, one of a type T by `T::name`, a method by `.name(`.  Where another
@@ -29,7 +29,7 @@ from pathlib import Path
 sys.path.insert(0, str(Path(__file__).resolve().parents[1]))
 
 from common import command
-from common.sources import COMMENT_OR_TEXT, is_library
+from common.sources import COMMENT_OR_TEXT, is_library, libraries
 
 # Names that methods of the standard library have too.
 STANDARD = {"chain", "count", "get", "join", "parse", "read"}
@@ -106,7 +106,7 @@ def calls(body, call, shared):
 
 
 def unused_calls(crates):
-    """The public calls that take memory or use up a value, and that no other body calls."""
+    """The public calls that take memory or use up a value, and those of them that no other body calls."""
     every = [
         function
         for crate in sorted(Path(crates).iterdir())
@@ -119,21 +119,18 @@ def unused_calls(crates):
             bodies[word].append(body)
     types = Counter(name for name, _ in {(it.name, it.type) for it in every})
     shared = {name for name, number in types.items() if number > 1} | STANDARD
-    return [
-        call
-        for call in every
-        if call.is_public and call.is_asked()
-        and not any(calls(body, call, shared) for body in bodies[call.name] if body is not call)
-    ]
+    asked = [call for call in every if call.is_public and call.is_asked()]
+    return asked, [call for call in asked if not any(calls(body, call, shared) for body in bodies[call.name] if body is not call)]
 
 
 def main(arguments):
     if len(arguments) != 1 or not Path(arguments[0]).is_dir():
         return command.usage(__doc__)
-    found = unused_calls(arguments[0])
+    number = len(libraries(Path(arguments[0])))
+    asked, found = unused_calls(arguments[0])
     for call in found:
         print(call)
-    print(f"public calls that nothing calls: {len(found)}")
+    print(f"public calls that nothing calls: {len(found)}, of {len(asked)} in {number} libraries")
     return 1 if found else 0
 
 

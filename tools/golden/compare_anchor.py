@@ -1,12 +1,12 @@
 #!/usr/bin/env python3
-"""Compare what `xgolden_anchor` finds with two searches in Python, on pools of certificates drawn at random.
+"""Compare what `xgolden_run` finds with two searches in Python, on pools of certificates drawn at random.
 
 Usage:
 
     python3 tools/golden/compare_anchor.py [--seed N] [--count N] PROGRAM
     python3 tools/golden/compare_anchor.py --searches [--seed N] [--count N]
 
-PROGRAM is the executable of the crate `xgolden_anchor`.  The pools are those of
+PROGRAM is the executable of the crate `xgolden_run`.  The pools are those of
 `drawn_anchors.py`: COUNT of 2 to 256 certificates in a drawn order, and small ones in
 every order.  The expected path is that of `anchor_search.py`, on pools of up to 12
 certificates also that of `anchor_judge.py`, which tries lists of indices.  `--searches`
@@ -66,7 +66,7 @@ def unlike_of(program, cases, answers):
     """Where the program prints another line; without a program, where the searches differ."""
     lines = [said.split(" or ")[0] for said in answers]
     if program is not None:
-        lines = printed(program, [row(*case) for _, *case in cases])
+        lines = printed(program, "anchor", [row(*case) for _, *case in cases])
         if len(lines) != len(cases):
             raise command.Refusal(f"{program} prints {len(lines)} lines of {len(cases)} rows")
     return [(case, said, line) for case, said, line in zip(cases, answers, lines) if said != line]
@@ -89,7 +89,7 @@ def options(arguments):
     parser.add_argument("--seed", type=int, default=1)
     parser.add_argument("--count", type=int, default=1000)
     parser.add_argument("--searches", action="store_true", help="compare the searches in Python alone")
-    parser.add_argument("program", type=command.executable, nargs="?", help="path of xgolden_anchor")
+    parser.add_argument("program", type=command.executable, nargs="?", help="path of xgolden_run")
     chosen = parser.parse_args(arguments)
     if chosen.searches == (chosen.program is not None):
         parser.error("it takes a program, or --searches")

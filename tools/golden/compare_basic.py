@@ -1,12 +1,12 @@
 #!/usr/bin/env python3
-"""Compare what `xgolden_basic` prints with what `basic_judge` says, on signature files with elements changed at random.
+"""Compare what `xgolden_check` prints of basic validation with what `basic_judge` says, on signature files with elements changed at random.
 
 Usage:
 
     python3 tools/golden/compare_basic.py [--seed N] [--count N] PROGRAM
 
-PROGRAM is the executable of the crate `xgolden_basic`.  The files are those of
-`xgolden_basic.py` in which elements are left out, repeated, exchanged, put
+PROGRAM is the executable of the crate `xgolden_check`.  The files are those of
+`basic_vectors.py` in which elements are left out, repeated, exchanged, put
 elsewhere or changed in an octet, one to three times.  The table accepts the
 signature of whatever signer and certificate the judge finds there, so that the
 steps behind the signature are reached, and mostly the digest that is in the
@@ -26,7 +26,7 @@ sys.path.insert(0, str(Path(__file__).resolve().parents[1]))
 
 from cases.basic_world import HEADER, signature_file, with_octet
 from common import command
-from golden import xgolden_basic
+from golden import basic_vectors
 from judges import basic_judge
 from judges.der_reader import Constructed, Malformed, NotWritable, Primitive, read_first, write
 from judges.value_reader import word
@@ -36,7 +36,7 @@ LONGEST = 6000
 
 def bases():
     """Values that are one element, and the digests that they are asked for."""
-    for (file, file_hash, *_), said in xgolden_basic.cases():
+    for (file, file_hash, *_), said in basic_vectors.cases():
         try:
             element, _ = read_first(file[HEADER:])
         except Malformed:
@@ -149,23 +149,24 @@ def cases(seed, count, known, make):
     return found
 
 
-def printed(program, rows):
-    """The lines that the program prints of rows of words."""
+def printed(program, kind, rows):
+    """The lines that the program prints of rows of words, of a kind."""
     with tempfile.TemporaryDirectory() as folder:
         file = Path(folder, "cases.txt")
         file.write_text("".join(f"{' '.join(row)}\n" for row in rows), encoding="ascii")
-        return subprocess.run([program, file], check=True, stdout=subprocess.PIPE).stdout.decode().splitlines()
+        return subprocess.run([program, kind, file], check=True, stdout=subprocess.PIPE).stdout.decode().splitlines()
 
 
-def compare(program, rows, answers, kind):
-    """Compares what the program prints of rows with the answers, and counts these by their kinds: 0 where none differs."""
-    lines = printed(program.resolve(), rows)
+def compare(program, vectors, answers, named):
+    """Compares what the program prints of a kind's rows with the answers, and counts these by their names: 0 where none differs."""
+    kind, rows = vectors
+    lines = printed(program.resolve(), kind, rows)
     if len(lines) != len(rows):
         raise command.Refusal(f"{program} prints {len(lines)} lines of {len(rows)} rows")
     unlike = [(row, said, line) for row, said, line in zip(rows, answers, lines) if said != line]
     for row, said, line in unlike[:10]:
         print(f"{' '.join(row)}: {line!r}, not {said!r}")
-    for name, many in Counter(map(kind, answers)).most_common():
+    for name, many in Counter(map(named, answers)).most_common():
         print(f"{many:7} {name}")
     print(f"signature files: {len(rows) - len(unlike)} as the judge says, {len(unlike)} not")
     return 1 if unlike else 0
@@ -181,10 +182,10 @@ def options(words, description, count, program):
 
 
 def main(arguments):
-    words = options(arguments, "Basic validation beside a judge in Python.", 6000, "xgolden_basic")
+    words = options(arguments, "Basic validation beside a judge in Python.", 6000, "xgolden_check")
     made = cases(words.seed, words.count, bases(), case)
     rows = [(word(octets), word(file_hash), word(table.encode())) for octets, file_hash, table in made]
-    return compare(words.program, rows, [basic_judge.answer(*one) for one in made], lambda said: said.split()[0])
+    return compare(words.program, ("basic", rows), [basic_judge.answer(*one) for one in made], lambda said: said.split()[0])
 
 
 if __name__ == "__main__":

@@ -6,7 +6,7 @@ Usage:
     python3 tools/golden/compare_check.py [--seed N] [--count N] PROGRAM
 
 PROGRAM is the executable of the crate `xgolden_check`.  Half of the files are those
-of `xgolden_check.py`, changed as `compare_basic.py` changes them, under policies drawn
+of `check_vectors.py`, changed as `compare_basic.py` changes them, under policies drawn
 at random, the others are drawn whole (`drawn_excuses.py`).  The table accepts most of
 the signatures that a check may ask for, so that the steps behind them are reached.  Of
 two policies one has a trust list (`drawn_lists.py`).  Exit status 1 says that an answer
@@ -21,7 +21,7 @@ sys.path.insert(0, str(Path(__file__).resolve().parents[1]))
 from cases import check_rows, drawn_excuses, drawn_lists, real_policies
 from cases.basic_world import HEADER
 from common import command
-from golden import xgolden_check
+from golden import check_vectors
 from golden.compare_basic import LONGEST, cases, changed, compare, digest_within, options
 from judges import asked_signatures
 from judges.check_judge import Policy, answer
@@ -100,8 +100,8 @@ def kind(said):
 def main(arguments):
     words = options(arguments, "A check under a policy beside a judge in Python.", 4000, "xgolden_check")
     made = cases(words.seed, words.count, bases(), either)
-    rows = [(word(octets), xgolden_check.table_word(table), xgolden_check.asked_word(policy)) for octets, policy, table in made]
-    return compare(words.program, rows, [answer(*one) for one in made], kind)
+    rows = [(word(octets), check_vectors.table_word(table), check_vectors.asked_word(policy)) for octets, policy, table in made]
+    return compare(words.program, ("check", rows), [answer(*one) for one in made], kind)
 
 
 if __name__ == "__main__":

@@ -20,7 +20,7 @@ Python too, with the same line.  Of the others one in so many (`--judged`) is
 compared too.  Exit status 1 says that a run ends otherwise.
 
 With `--write` the vectors are written, so many to a file, as `rt try --cases
-FOLDER -- {}` takes them in the folder of `xgolden_run`, to be run with the kit's
+FOLDER -- run {}` takes them in the folder of `xgolden_run`, to be run with the kit's
 sanitizer.
 """
 
@@ -48,7 +48,7 @@ from cases.check_parts import S, T, I
 from cases.run_rows import ROOM, row
 from common import command
 from golden.compare_basic import at, exchanged, mutation, places
-from golden.xgolden_pe_image import made
+from golden.image_vectors import made
 from interop import chains, signed_images
 from interop.signed_files import NAMES, digest_of, table_of
 from judges import anchor_judge, basic_judge, chain_reader, check_judge, pe_judge, question_judge, register_lines
@@ -401,7 +401,7 @@ def run(program, vectors, folder):
     rows = folder / "rows"
     rows.write_text("".join(f"{one}\n" for one in vectors), encoding="ascii")
     before = resource.getrusage(resource.RUSAGE_CHILDREN)
-    done = subprocess.run([program, rows], stdin=subprocess.DEVNULL, capture_output=True)
+    done = subprocess.run([program, "run", rows], stdin=subprocess.DEVNULL, capture_output=True)
     after = resource.getrusage(resource.RUSAGE_CHILDREN)
     took = after.ru_utime + after.ru_stime - before.ru_utime - before.ru_stime
     return runs_in(done.stdout.decode(errors="replace")), done.returncode, took

@@ -31,8 +31,8 @@ sys.path.insert(0, str(Path(__file__).resolve().parents[1]))
 
 from cases import check_rows, real_policies
 from common import command
-from golden.xgolden_check import asked_word, table_word
-from golden.xgolden_questions import Recorded
+from golden.check_vectors import asked_word, table_word
+from golden.questions_vectors import Recorded
 from judges import basic_judge, check_judge, question_judge
 from judges.value_reader import word
 from judges.verdict_rows import FIRST_LINE, verdicts
@@ -122,7 +122,7 @@ def answers(program, all_cases):
         with file.open("w", encoding="ascii") as out:
             for _, octets, table, policy, _ in all_cases:
                 print(word(octets), table_word(table), asked_word(policy), file=out)
-        return subprocess.run([program, file], check=True, capture_output=True, text=True).stdout.splitlines()
+        return subprocess.run([program, "check", file], check=True, capture_output=True, text=True).stdout.splitlines()
 
 
 def main(words):

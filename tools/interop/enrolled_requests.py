@@ -1,5 +1,5 @@
 #!/usr/bin/env python3
-"""Requests of openssl that a register of `xgolden_register` enrols, and what openssl says of its certificates.
+"""Requests of openssl that a register of `xgolden_run` enrols, and what openssl says of its certificates.
 
 Usage:
 
@@ -10,7 +10,7 @@ The first prints `tools/cases/enrolling_keys.txt` anew: openssl (3.0 or later) m
 intermediate CA, fresh each time, and the request of the intermediate.  A row is a label and octets in base64, a bar
 between.
 
-The second rests on the stored run of `xgolden_register`.  openssl prints each field and each extension of each
+The second rests on the stored run of `xgolden_run`.  openssl prints each field and each extension of each
 certificate that was asked for, and `openssl verify -attime` accepts, over the CA's certificates, exactly those that the
 register accepts at the date of the row, but for the last second of a validity, which openssl takes as past it.
 `openssl req -verify` accepts the requests that are enrolled, and refuses the others, but for those whose key or
@@ -29,11 +29,11 @@ from time import strptime
 sys.path.insert(0, str(Path(__file__).resolve().parents[1]))
 
 from cases import enrolled_requests as cases
-from common import command, folders
+from common import command
 from common.openssl import openssl
+from golden.stored_run import stored
 from interop.issuing_check import Differs, certificate_check, same
 
-FOLDER = folders.CRATES / "xgolden_register"
 KEY_WORDS = "genpkey", "-algorithm", "RSA", "-pkeyopt", "rsa_keygen_bits:2048", "-outform", "DER"
 
 
@@ -113,9 +113,8 @@ def check_row(folder, row, line, made):
 
 def check():
     """Print what openssl says otherwise; the status to end with."""
-    stored = [(FOLDER / path).read_text(encoding="ascii").splitlines() for path in ("data/rows", "stdout")]
     made, verdicts = cases.ca(), Counter()
-    for row, line in zip(*stored, strict=True):
+    for row, line in zip(*stored("xgolden_run", "register"), strict=True):
         if row.startswith("stored "):
             with TemporaryDirectory() as place:
                 certificates, names, counts = check_row(Path(place), row, line, made)

@@ -198,7 +198,7 @@ def main(arguments):
     if len(arguments) != 1:
         return command.usage(__doc__)
     program = Path(arguments[0]).resolve()
-    return check(lambda rows, _: subprocess.run([program, rows], capture_output=True, check=True, text=True).stdout.splitlines())
+    return check(lambda rows, _: subprocess.run([program, "kept", rows], capture_output=True, check=True, text=True).stdout.splitlines())
 
 
 if __name__ == "__main__":

@@ -9,7 +9,7 @@ Usage:
 
 `table` prints the constants and the table of `crates/asn1_types/src/oids.rt`,
 `list` the list of `crates/asn1_types/specs/NamedIdentifiers.antt`.  `check`
-says whether both files have what is printed here.  `tools/golden/xgolden_value.py`
+says whether both files have what is printed here.  `tools/golden/value_vectors.py`
 takes the texts and octets below as rows.
 
 The octets are made by the rule of X.690 8.19: the first two arcs a and b are

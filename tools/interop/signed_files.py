@@ -1,10 +1,10 @@
 #!/usr/bin/env python3
-"""Programs that osslsigncode and sbsign sign, checked by `xgolden_pe_image`, by `osslsigncode verify` and by `sbverify`.
+"""Programs that osslsigncode and sbsign sign, checked by `xgolden_run`, by `osslsigncode verify` and by `sbverify`.
 
     python3 tools/interop/signed_files.py PROGRAM [FILE ..]
     python3 tools/interop/signed_files.py --octets PROGRAM
 
-PROGRAM is the executable of the crate `xgolden_pe_image`.  The first signs the programs
+PROGRAM is the executable of the crate `xgolden_run`.  The first signs the programs
 of `signed_images.py` and each FILE, as `SIGNINGS` says, and has all three check what
 comes out, and some of it with an octet changed and with one appended.  It compares the
 digests that Python and `osslsigncode verify` compute and who accepts, and prints each
@@ -156,7 +156,7 @@ def table_of(octets):
 
 def lines_of(program, cases, tables, moment):
     """What the program here prints."""
-    lines = printed(program, [(octets.hex(), table.encode().hex() or "-", f"{moment}Z") for octets, table in zip(cases, tables)])
+    lines = printed(program, "image", [(octets.hex(), table.encode().hex() or "-", f"{moment}Z") for octets, table in zip(cases, tables)])
     if len(lines) != len(cases):
         raise command.Refusal(f"{program} prints {len(lines)} lines of {len(cases)} rows")
     return lines

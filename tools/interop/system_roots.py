@@ -24,7 +24,7 @@ sys.path.insert(0, str(Path(__file__).resolve().parents[1]))
 
 from common import command
 from common.openssl import openssl
-from golden.xgolden_value import threefold
+from golden.value_vectors import threefold
 from interop.certificate_fields import check
 
 FOLDER = Path("/usr/share/ca-certificates/mozilla")
@@ -45,7 +45,7 @@ def answers(program, found):
     with tempfile.NamedTemporaryFile("w") as rows:
         rows.writelines(f"both certificate {octets.hex()}\n" for octets in found)
         rows.flush()
-        return subprocess.run([program, rows.name], check=True, stdout=subprocess.PIPE, text=True).stdout.splitlines()
+        return subprocess.run([program, "certificate", rows.name], check=True, stdout=subprocess.PIPE, text=True).stdout.splitlines()
 
 
 def main(words):

@@ -1,4 +1,4 @@
-"""What basic validation answers to a signature file, step by step, as `xgolden_basic` prints it.
+"""What basic validation answers to a signature file, step by step, as `xgolden_check` prints it.
 
 This judge exists to be compared with the project's own: it is written from RFC
 5652, the Windows Authenticode Portable Executable Signature Format and the order

@@ -1,4 +1,4 @@
-"""Structures of PKCS #7 and Authenticode read from elements, and what `xgolden_cms` prints of them.
+"""Structures of PKCS #7 and Authenticode read from elements, and what `xgolden_certificate` prints of them.
 
 This reader exists to be compared with the project's own, as `value_reader`,
 whose functions on the values within it takes: it is written from RFC 2315, RFC

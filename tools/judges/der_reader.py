@@ -34,7 +34,11 @@ and `Overrun` for an inner one.
     der_reader.Malformed: Trailing at 5
 """
 
+from functools import lru_cache
 from typing import NamedTuple
+
+# How many elements are kept that were read, of so many octets at most, and how many that were written.
+KEPT, KEPT_LENGTH = 256, 1 << 16
 
 DEEPEST = 64
 LONGEST = 0xFFFF_FFFF
@@ -75,6 +79,14 @@ class NotWritable(Exception):
 
 def read_first(octets):
     """The element that `octets` begin with, and the number of octets it takes."""
+    if isinstance(octets, bytes) and len(octets) <= KEPT_LENGTH:
+        return _kept_element(octets)
+    return _element(octets, 0, len(octets), 1)
+
+
+@lru_cache(maxsize=KEPT)
+def _kept_element(octets):
+    """The element that octets begin with, which is read once where it is asked for again and again."""
     return _element(octets, 0, len(octets), 1)
 
 
@@ -134,9 +146,8 @@ def _element(octets, place, bound, level):
 
 def _head(octets, place, bound, level):
     """Tests 1 to 6: the tag, and where the contents begin and end."""
-    past_the_bound = Malformed("Truncated" if level == 1 else "Overrun", place)
     if place == bound:
-        raise past_the_bound
+        raise _past_the_bound(place, level)
     tag = octets[place]
     if tag == 0:
         raise Malformed("ReservedTag", place)
@@ -146,7 +157,7 @@ def _head(octets, place, bound, level):
         raise Malformed("TooDeep", place)
     start = place + 2
     if start > bound:
-        raise past_the_bound
+        raise _past_the_bound(place, level)
     size = octets[place + 1]
     if size == 0x80:
         raise Malformed("Indefinite", place)
@@ -155,7 +166,7 @@ def _head(octets, place, bound, level):
     if size > 0x80:
         first, start = start, start + size - 0x80
         if start > bound:
-            raise past_the_bound
+            raise _past_the_bound(place, level)
         size = 0
         for index in range(first, start):
             size = size << 8 | octets[index]
@@ -163,8 +174,12 @@ def _head(octets, place, bound, level):
             raise Malformed("NotShortest", place)
     end = start + size
     if end > bound:
-        raise past_the_bound
+        raise _past_the_bound(place, level)
     return tag, start, end
+
+
+def _past_the_bound(place, level):
+    return Malformed("Truncated" if level == 1 else "Overrun", place)
 
 
 # Writing.
@@ -195,6 +210,12 @@ def write(tree):
     `NotWritable("TooLong")` where some contents are longer than a length of
     four octets can say, and ValueError where it isn't well formed.
     """
+    return _kept_encoding(tree)
+
+
+@lru_cache(maxsize=KEPT)
+def _kept_encoding(tree):
+    """The encoding of an element, which is made once where it is asked for again and again."""
     if _is_deeper(tree, DEEPEST):
         raise NotWritable("TooDeep")
     if not is_well_formed(tree):

@@ -1,4 +1,4 @@
-"""Structures of X.509 read from elements, and what `xgolden_structure` prints of them.
+"""Structures of X.509 read from elements, and what `xgolden_value` prints of them.
 
 This reader exists to be compared with the project's own, so it shares nothing
 with it: it is written from X.690, RFC 5280 and the rules of printing below,

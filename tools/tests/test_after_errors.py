@@ -126,7 +126,7 @@ class AfterErrors(unittest.TestCase):
             "low: ListOf<T>::both: contract",
             "low: ListOf<T>::same: same",
             "low: Sink::write: kept",
-            "calls that change a value and may fail: 5, 0 of them without a clause on the value after an error",
+            "calls that change a value and may fail: 5 in 1 libraries, 0 of them without a clause on the value after an error",
         ])
 
     def test_without_a_clause(self):
@@ -135,7 +135,7 @@ class AfterErrors(unittest.TestCase):
         self.assertEqual(lines, [
             "low: Store::add: NOTHING is said of the value after an error",
             "low: Store as Sink::write: NOTHING is said of the value after an error",
-            "calls that change a value and may fail: 2, 2 of them without a clause on the value after an error",
+            "calls that change a value and may fail: 2 in 1 libraries, 2 of them without a clause on the value after an error",
         ])
 
     def test_not_listed(self):

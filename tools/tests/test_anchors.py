@@ -12,19 +12,13 @@ sys.path.insert(0, str(Path(__file__).resolve().parents[1]))
 from cases import anchor_rows, drawn_anchors
 from cases.issuing_rows import DEMO
 from common import folders
-from golden import compare_anchor, xgolden_anchor, xgolden_run
+from golden import compare_anchor
 from interop import anchored_paths
 from judges import anchor_search
 from judges.anchor_judge import Search
 
 
 class AnchoredPathsTest(unittest.TestCase):
-
-    def test_stored_files(self):
-        for path, octets in xgolden_anchor.stored_files().items():
-            self.assertEqual((folders.CRATES / "xgolden_anchor" / path).read_bytes(), octets, path)
-        for path, octets in xgolden_run.stored_files().items():
-            self.assertEqual((folders.CRATES / "xgolden_run" / path).read_bytes(), octets, path)
 
     def test_both_searches(self):
         links, rows = {}, [*anchor_rows.by_hand(), *anchor_rows.dates(), *anchor_rows.lengths()]

@@ -711,12 +711,6 @@ class DocumentedTest(unittest.TestCase):
             self.assertIn(f"  {option}", check_program.__doc__)
             self.assertIn(f" {option} ", completion)
 
-    @unittest.skipUnless(which("mandoc"), "mandoc isn't there")
-    def test_pages(self):
-        for page in sorted((Path(__file__).resolve().parents[2] / "man").glob("*.1")):
-            done = subprocess.run(["mandoc", "-Tlint", "-W", "warning", page], capture_output=True, text=True)
-            self.assertEqual((done.returncode, done.stdout), (0, ""), page.name)
-
     def test_programs(self):
         self.assertEqual(set(programs.ACCEPTED), {"picky", "picky_pe", "picky_ask", "picky_anchor"})
 

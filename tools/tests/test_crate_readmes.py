@@ -210,7 +210,7 @@ class Readmes(unittest.TestCase):
         self.readme.write_text(README, encoding="utf-8")
         status, out, _ = self.run_it("--check", str(self.crates))
         self.assertEqual(status, 1)
-        self.assertIn("out of date: 1\n", out)
+        self.assertIn("out of date: 1, of 1\n", out)
         self.assertEqual(self.run_it(str(self.crates))[0], 0)
         text = self.readme.read_text(encoding="utf-8")
         self.assertNotIn("old", text)

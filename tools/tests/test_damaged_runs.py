@@ -20,7 +20,7 @@ from judges.der_reader import read_first
 
 STAND_IN = """#!{python}
 import sys
-for number, line in enumerate(open(sys.argv[1])):
+for number, line in enumerate(open(sys.argv[2])):
     print({answer})
 """
 

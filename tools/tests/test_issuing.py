@@ -12,7 +12,7 @@ sys.path.insert(0, str(Path(__file__).resolve().parents[1]))
 
 from cases import issuing_chains as chains
 from cases import issuing_rows as rows
-from golden import xgolden_issuing
+from golden import issuing_vectors
 from interop import issuing_check, world_requests
 from judges.der_reader import read_exact, write
 from judges.issuing_judge import chain_line, request_line
@@ -42,18 +42,14 @@ def settled(settings, scheme=rows.DEMO, key=rows.K11):
 
 class StoredRunTest(unittest.TestCase):
 
-    def test_stored_files(self):
-        for path, octets in xgolden_issuing.stored_files().items():
-            self.assertEqual((xgolden_issuing.FOLDER / path).read_bytes(), octets, path)
-
     @unittest.skipUnless(which("openssl"), "openssl isn't there")
     def test_openssl_reads_some(self):
-        read = [row for row in xgolden_issuing.stored() if " build " in row[0] or " generate " in row[0]]
+        read = [row for row in issuing_vectors.stored_rows() if " build " in row[0] or " generate " in row[0]]
         self.assertEqual(issuing_check.check(read[::12]), 0)
 
     @unittest.skipUnless(which("openssl"), "openssl isn't there")
     def test_openssl_says_another_field(self):
-        row, line = next(iter(xgolden_issuing.stored()))
+        row, line = next(iter(issuing_vectors.stored_rows()))
         octets = bytes.fromhex(line.split(" ")[0])
         for asked, other in (("=20200101", "=20200102"), ("build 0", "build 2"), ("5369676e6572", "5369676e6573")):
             self.assertIn(asked, row)

@@ -5,6 +5,16 @@ use std::alloc::Global;
 use std::io::Write;
 use std::time::CpuClock;
 
+/// A kind, the path of its file and how often it is read, if the words are these after `time`.
+pub fn timed(words: &[String]) -> Option<(&str, &str, &str)> {
+    match words {
+        [time, kind, path, times] if time.as_str() == "time" => {
+            Some((kind.as_str(), path.as_str(), times.as_str()))
+        }
+        _ => None,
+    }
+}
+
 /// Does the work for each item this often, and prints a line: its name, for each item 1 if it
 /// succeeded and else 0, the total nanoseconds, and a sum over the numbers returned, so that the
 /// work isn't optimized away.

@@ -1,7 +1,11 @@
 //! The words of a vector.
 
 use crate::unanswered::Unanswered;
+use anyhow::{Context, Result, bail};
+use asn1_types::GeneralizedTime;
 use hex::FromHexError;
+use names_core::UtcDate;
+use sig_core::{HashAlgorithm, VerdictTable};
 use std::alloc::{AllocError, Global};
 use std::str::FromStr;
 
@@ -52,4 +56,53 @@ pub fn word_of(alloc: Global, octets: &[u8]) -> Result<String, AllocError> {
     } else {
         hex::encode(alloc, octets)
     }
+}
+
+/// The moment by the contents of its GeneralizedTime.
+pub fn date_of(word: &str) -> Result<UtcDate> {
+    let time = GeneralizedTime::from_content(word.as_bytes());
+    Ok(UtcDate::from(time.context("no moment is written so")?))
+}
+
+/// Whether a certificate is a CA's: `ca` or `end`.
+pub fn ca_flag_of(word: &str) -> Result<bool> {
+    match word {
+        "ca" => Ok(true),
+        "end" => Ok(false),
+        _ => bail!("no flag is written so"),
+    }
+}
+
+/// A path length, `-` for none.
+pub fn length_of(word: &str) -> Result<Option<u8>> {
+    if word == "-" {
+        return Ok(None);
+    }
+    Ok(Some(word.parse()?))
+}
+
+/// A digest algorithm by its name.
+pub fn digest_of(name: &str) -> Result<HashAlgorithm> {
+    for digest in HashAlgorithm::ALL {
+        if digest.name() == name {
+            return Ok(digest);
+        }
+    }
+    bail!("no digest algorithm is called so")
+}
+
+/// The verdict table with the text in octets.
+pub fn table_of(alloc: Global, word: &str) -> Result<VerdictTable> {
+    let text = octets_of(alloc, word)?;
+    Ok(VerdictTable::parse(alloc, &text)?)
+}
+
+/// The verdict table with `:` for each space and `;` for each newline, `-` for an empty one.
+pub fn line_table_of(alloc: Global, word: &str) -> Result<VerdictTable> {
+    if word == "-" {
+        return Ok(VerdictTable::parse(alloc, b"")?);
+    }
+    let spaced = word.replace(alloc, ':', " ")?;
+    let text = spaced.replace(alloc, ';', "\n")?;
+    Ok(VerdictTable::parse(alloc, text.as_bytes())?)
 }

@@ -1,40 +1,46 @@
-//! Output for a file of test vectors about certificates, for comparison with golden output.
+//! Output for files of test vectors about certificates, and structures of PKCS #7 and Authenticode,
+//! for comparison with golden output.
 //!
 //! ```text
-//! xgolden_certificate FILE
-//! xgolden_certificate FILE TIMES
+//! xgolden_certificate KIND FILE ..
+//! xgolden_certificate time KIND FILE TIMES
 //! ```
 //!
-//! A vector is a call and its arguments, separated by spaces: `structure certificate OCTETS`,
-//! `view certificate OCTETS`, `kept certificate OCTETS`, `written certificate OCTETS ALGORITHM`,
-//! `parent certificate OCTETS OCTETS`, `unlike certificate OCTETS OCTETS`,
-//! `both certificate OCTETS`, or `both certificate BEGIN PART TIMES END`. Octets are in
-//! hexadecimal. A line is printed for each vector. `tools/golden/xgolden_value.py` makes vectors
-//! and golden output.
+//! KIND is `certificate` or `cms`, which the heads of these modules describe. Words are separated by
+//! spaces, octets and texts are in hexadecimal, `-` for none. A line is printed for each vector, and
+//! an empty one between two files. `tools/golden/crates.py` makes vectors and golden output.
 //!
-//! With TIMES the file is a sequence of certificates; each is read this often, for
-//! `bench/certificates/certificates.py`.
+//! After `time` the file is a sequence of certificates, or signed data; each is read this often, for
+//! `bench/certificates/certificates.py` and `bench/signed_data/signed_data.py`.
 #![tactic(auto)]
 
-mod both;
-mod details;
-mod kept;
-mod measure;
-mod row;
-mod view;
+mod certificate;
+mod cms;
+mod shown;
 
 use anyhow::{Result, bail};
-use std::{env, fs, io};
-use xgolden::print_rows;
+use std::alloc::Global;
+use std::{fs, io};
+use xgolden::{answer_by, print_kinds, timed, words_of};
 
 fn main(rt: HostRuntime) -> Result<()> {
-    let words: Vec<String> = env::args(&rt)?.skip(1).collect(rt.alloc())?;
-    match words.as_slice() {
-        [path] => print_rows(&rt, path.as_str(), row::print),
-        [path, times] => {
-            let file = fs::read(&rt, path.as_str())?;
-            measure::print_times(rt.alloc(), &rt, &file, times.parse()?, &mut io::writer(&rt))
-        }
-        _ => bail!("usage: xgolden_certificate FILE [TIMES]"),
+    let words = words_of(&rt)?;
+    let Some((kind, path, times)) = timed(&words) else {
+        return print_kinds(&rt, &words, answer);
+    };
+    let file = fs::read(&rt, path)?;
+    let (times, out) = (times.parse()?, &mut io::writer(&rt));
+    match kind {
+        "certificate" => certificate::measure::print_times(rt.alloc(), &rt, &file, times, out),
+        _ => cms::measure::print_times(rt.alloc(), &rt, &file, times, out),
+    }
+}
+
+/// The output for a vector.
+fn answer(alloc: Global, kind: &str, row: &str) -> Result<String> {
+    match kind {
+        "certificate" => answer_by(alloc, row, certificate::print),
+        "cms" => answer_by(alloc, row, cms::print),
+        _ => bail!("no kind of vectors is called so"),
     }
 }

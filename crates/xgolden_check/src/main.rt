@@ -1,64 +1,34 @@
-//! The results of `check_wincert` for many signature files under many policies, and whether the
-//! validator of each owned signature returns the same.
+//! Output for files of test vectors about checks of signature files, for comparison with golden
+//! output.
 //!
 //! ```text
-//! xgolden_check FILE
+//! xgolden_check KIND FILE ..
 //! ```
 //!
-//! Each line of FILE is a case: a signature file in hexadecimal; a verdict table with `:` for each
-//! space and `;` for each newline; and any number of policies. A line is printed for each policy,
-//! with `differs` before it if the result of the validator is another.
-//!
-//! A policy is five words separated by commas, or eight: a letter for each flag that is on, `b` for
-//! basic, `s` for signing, `f` and `l` for the first and the last end of validities, `c` for the
-//! chain, `a` for the trust list, `e` for excluded names; the digest of the file; the date, or the
-//! lower end of the dates, as `20250101000000Z`; the upper end; an offset in the file in two octets
-//! with the octet to put there; a trust list, the time in seconds since 1601, and the names
-//! excluded, with `+` between. `-` is none. For a trust list that isn't read, why is printed.
-//! `tools/golden/xgolden_check.py` makes such a file, and its golden output.
+//! KIND is `path`, `basic` or `check`, which the heads of these modules describe. Words are separated
+//! by spaces. An empty line is printed between two files. `tools/golden/crates.py` makes vectors and golden
+//! output.
 #![tactic(auto)]
 
-mod asked;
-mod case;
-mod kept;
-mod line;
-mod lists;
+mod basic;
+mod change;
+mod check;
+mod path;
 
-use crate::case::{answer, case_of};
 use anyhow::{Result, bail};
 use std::alloc::Global;
-use std::io::{BufWriter, Write};
-use std::{env, fs, io};
+use xgolden::{print_kinds, words_of};
 
 fn main(rt: HostRuntime) -> Result<()> {
-    let words: Vec<String> = env::args(&rt)?.skip(1).collect(rt.alloc())?;
-    let [path] = words.as_slice() else {
-        bail!("usage: xgolden_check FILE");
-    };
-    let cases = fs::read_to_string(&rt, path.as_str())?;
-    let mut out = BufWriter::new(rt.alloc(), io::writer(&rt))?;
-    print_answers(rt.alloc(), &cases, &mut out)?;
-    out.flush()?;
-    Ok(())
+    print_kinds(&rt, &words_of(&rt)?, answer)
 }
 
-fn print_answers(alloc: Global, cases: &str, out: &mut impl Write) -> Result<()> {
-    for text in cases.lines() {
-        print_case(alloc, text, out)?;
+/// The output for a vector.
+fn answer(alloc: Global, kind: &str, row: &str) -> Result<String> {
+    match kind {
+        "path" => path::answer(alloc, row),
+        "basic" => basic::answer(alloc, row),
+        "check" => check::answer(alloc, row),
+        _ => bail!("no kind of vectors is called so"),
     }
-    Ok(())
-}
-
-/// Prints the lines of a case, one for each policy.
-fn print_case(alloc: Global, text: &str, out: &mut impl Write) -> Result<()> {
-    let mut words = text.split(' ');
-    let (Some(file), Some(table)) = (words.next(), words.next()) else {
-        bail!("a case has a file and a table");
-    };
-    let case = case_of(alloc, file, table)?;
-    for asked in words {
-        let line = answer(alloc, &case, asked)?;
-        writeln!(out, "{line}")?;
-    }
-    Ok(())
 }

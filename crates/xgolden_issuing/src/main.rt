@@ -1,87 +1,45 @@
-//! Output for a file of test vectors about building certificates, requests, and certificates with
-//! their parents.
+//! Output for files of test vectors about building certificates, requests, and certificates with
+//! their parents, for comparison with golden output.
 //!
 //! ```text
-//! xgolden_issuing FILE
-//! xgolden_issuing FILE TIMES
+//! xgolden_issuing KIND FILE ..
+//! xgolden_issuing time issuing FILE TIMES
 //! ```
 //!
-//! A vector has words separated by spaces. The first is the scheme: `demo`, or the text of a
-//! verdict table. One of these follows:
+//! KIND is `issuing`, `request` or `histories`, which the heads of these modules describe. Words are
+//! separated by spaces, octets are in hexadecimal, `-` for none. A line is printed for each vector,
+//! and an empty one between two files. `tools/golden/crates.py` makes vectors and golden output.
 //!
-//! ```text
-//! build WORD KEY SETTER=VALUE ..
-//! request OCTETS
-//! generate ALGORITHM KEY SUBJECT [ATTRIBUTES]
-//! chain CERTIFICATE,PARENT,.. LOWER,UPPER SETTER ..
-//! parent PARENT CERTIFICATE
-//! ```
-//!
-//! Octets are in hexadecimal, `-` for none. KEY is a private key in PKCS #8, a date is the contents
-//! of a GeneralizedTime. A line is printed for each vector. `tools/golden/xgolden_issuing.py` makes
-//! vectors and golden output.
-//!
-//! With TIMES the file has certificates separated by commas, the first issued by the second and so
+//! After `time` the file has certificates separated by commas, the first issued by the second and so
 //! on, a date, and the key of the second. The chain is validated and the first is built this often,
 //! for `bench/issuing/issuing.py`.
 #![tactic(auto)]
 
-mod building;
-mod chains;
-mod measure;
-mod printing;
-mod requests;
-mod settings;
-mod words;
+mod histories;
+mod issuing;
+mod request;
 
-use anyhow::{Context, Result, bail};
-use sig_core::{DemoScheme, Scheme};
+use anyhow::{Result, bail};
 use std::alloc::Global;
-use std::{env, fs, io};
-use xgolden::{Line, print_answers};
+use std::{fs, io};
+use xgolden::{answer_by, print_kinds, timed, words_of};
 
 fn main(rt: HostRuntime) -> Result<()> {
-    let words: Vec<String> = env::args(&rt)?.skip(1).collect(rt.alloc())?;
-    match words.as_slice() {
-        [path] => print_answers(&rt, path.as_str(), text_of),
-        [path, times] => {
-            let row = fs::read_to_string(&rt, path.as_str())?;
-            measure::print_times(
-                rt.alloc(),
-                &rt,
-                row.trim_end(),
-                times.parse()?,
-                &mut io::writer(&rt),
-            )
-        }
-        _ => bail!("usage: xgolden_issuing FILE [TIMES]"),
-    }
+    let words = words_of(&rt)?;
+    let Some((_, path, times)) = timed(&words) else {
+        return print_kinds(&rt, &words, answer);
+    };
+    let row = fs::read_to_string(&rt, path)?;
+    let (row, out) = (row.trim_end(), &mut io::writer(&rt));
+    issuing::measure::print_times(rt.alloc(), &rt, row, times.parse()?, out)
 }
 
-fn text_of(alloc: Global, row: &str) -> Result<String> {
-    let mut line = Line::new(alloc);
-    answer(alloc, row, &mut line)?;
-    line.answer_to(row)
-}
-
-/// Prints the line for a vector: its scheme, and the call.
-fn answer(alloc: Global, row: &str, line: &mut Line) -> Result<()> {
-    let (scheme, call) = row.split_once(' ').context("a row has words")?;
-    if scheme == "demo" {
-        return answer_under(alloc, call, &DemoScheme::new(), line);
-    }
-    let table = words::table_of(alloc, scheme)?;
-    answer_under(alloc, call, &table, line)
-}
-
-fn answer_under<S: Scheme>(alloc: Global, call: &str, scheme: &S, line: &mut Line) -> Result<()> {
-    let (name, words) = call.split_once(' ').context("a call has words")?;
-    match name {
-        "build" => building::print(alloc, words, scheme, line),
-        "request" => requests::print(alloc, words, scheme, line),
-        "generate" => requests::generate(alloc, words, scheme, line),
-        "chain" => chains::print(alloc, words, scheme, line),
-        "parent" => chains::print_parent(alloc, words, line),
-        _ => bail!("no call has such a row"),
+/// The output for a vector.
+fn answer(alloc: Global, kind: &str, row: &str) -> Result<String> {
+    match kind {
+        "issuing" => issuing::answer(alloc, row),
+        "request" => answer_by(alloc, row, request::print),
+        "histories" => histories::answer(alloc, row),
+        _ => bail!("no kind of vectors is called so"),
     }
 }

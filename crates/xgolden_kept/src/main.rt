@@ -2,10 +2,10 @@
 //! signatures.
 //!
 //! ```text
-//! xgolden_kept FILE
+//! xgolden_kept kept FILE
 //! ```
 //!
-//! A line of FILE has words separated by spaces, and is one of these:
+//! A vector has words separated by spaces, and is one of these:
 //!
 //! ```text
 //! SIGNED_DATA
@@ -17,8 +17,8 @@
 //!
 //! Octets are in hexadecimal, `-` for none. SCHEME is `demo`, or a message and its signature
 //! separated by a colon, KEY a private key in PKCS #8, and DIGEST the name of an algorithm.
-//! `tools/golden/xgolden_kept.py` makes such a file, and its golden output. For signed data that is
-//! the output of `xgolden_path`, then the digest of the file, and the number of signed and of
+//! `tools/golden/crates.py` makes such a file, and its golden output. For signed data that is
+//! the one of `path` of `xgolden_check`, then the digest of the file, and the number of signed and of
 //! unsigned attributes of the first signer, `-` without one; with a token the timestamped signed
 //! data; else signed data with the certificates alone, the signature of a program made with them,
 //! and the one that a builder makes; or why there is none.
@@ -42,19 +42,14 @@ use crate::stamp::print_stamped;
 use anyhow::{Context, Result, bail};
 use sig_core::{DemoScheme, Scheme};
 use std::alloc::Global;
-use std::env;
-use xgolden::{octets_of, print_answers};
+use xgolden::{octets_of, print_kinds, words_of};
 
 fn main(rt: HostRuntime) -> Result<()> {
-    let words: Vec<String> = env::args(&rt)?.skip(1).collect(rt.alloc())?;
-    let [path] = words.as_slice() else {
-        bail!("usage: xgolden_kept FILE");
-    };
-    print_answers(&rt, path.as_str(), answer)
+    print_kinds(&rt, &words_of(&rt)?, answer)
 }
 
-/// The output for a vector.
-fn answer(alloc: Global, row: &str) -> Result<String> {
+/// The output for a vector; all are of one kind.
+fn answer(alloc: Global, _kind: &str, row: &str) -> Result<String> {
     let mut line = String::new(alloc);
     print_answer(alloc, row, &mut line)?;
     Ok(line)

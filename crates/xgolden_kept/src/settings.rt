@@ -1,6 +1,6 @@
 //! Builder settings, one word for each setter.
 
-use crate::words::{attributes_of, certificates_of, content_of, hash_of, unsigned_of};
+use crate::words::{attributes_of, certificates_of, content_of, unsigned_of};
 use anyhow::{Context, Result, bail};
 use asn1_types::IntegerAsn1;
 use authenticode_signature::AuthenticodeSignatureBuilder;
@@ -12,7 +12,7 @@ use sig_core::HashAlgorithm;
 use std::alloc::Global;
 use x509_core::Cert;
 use x509_types::AttributeList;
-use xgolden::octets_of;
+use xgolden::{digest_of, octets_of};
 
 /// The setting of a call. The private key is passed when it is applied.
 #[derive(Drop)]
@@ -39,7 +39,7 @@ pub fn settings_of(alloc: Global, words: &[&str]) -> Result<Vec<Setting>> {
 fn setting_of(alloc: Global, setter: &str, value: &str) -> Result<Setting> {
     match setter {
         "certs" => Ok(Setting::Certs(certificates_of(alloc, value)?)),
-        "digest_algorithm" => Ok(Setting::DigestAlgorithm(hash_of(value)?)),
+        "digest_algorithm" => Ok(Setting::DigestAlgorithm(digest_of(value)?)),
         "content_info" => Ok(Setting::ContentInfo(content_of(alloc, value)?)),
         "signing_key" => Ok(Setting::SigningKey),
         _ => other_setting_of(alloc, setter, value),

@@ -1,6 +1,6 @@
 //! Parsing words.
 
-use anyhow::{Result, bail};
+use anyhow::Result;
 use authenticode_signature::Pkcs7;
 use cms_types::{EncapsulatedContentInfo, UnsignedAttribute, UnsignedAttributeList};
 use der_core::{ListOf, Structure};
@@ -9,7 +9,7 @@ use sig_core::{DemoScheme, HashAlgorithm, ShaVariant};
 use std::alloc::Global;
 use x509_core::Cert;
 use x509_types::{Attribute, AttributeList};
-use xgolden::octets_of;
+use xgolden::{digest_of, octets_of};
 
 /// A private key. A public key that isn't in it is derived by the demonstration scheme.
 pub fn key_of(alloc: Global, word: &str) -> Result<PrivateKey> {
@@ -68,18 +68,8 @@ fn unsigned_attribute_of(alloc: Global, word: &str) -> Result<UnsignedAttribute>
 }
 
 /// A digest algorithm by its name.
-pub fn hash_of(name: &str) -> Result<HashAlgorithm> {
-    for hash in HashAlgorithm::ALL {
-        if hash.name() == name {
-            return Ok(hash);
-        }
-    }
-    bail!("no digest algorithm is called so")
-}
-
-/// The same as a variant.
 pub fn variant_of(name: &str) -> Result<ShaVariant> {
-    Ok(match hash_of(name)? {
+    Ok(match digest_of(name)? {
         HashAlgorithm::MD5 => ShaVariant::MD5,
         HashAlgorithm::SHA1 => ShaVariant::SHA1,
         HashAlgorithm::SHA2_224 => ShaVariant::SHA2_224,

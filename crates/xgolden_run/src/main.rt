@@ -1,109 +1,50 @@
-//! Output for a file of test vectors about whole runs of the programs.
+//! Output for files of test vectors about the programs, what they stand on, and registers of CAs, for
+//! comparison with golden output.
 //!
 //! ```text
-//! xgolden_run FILE
+//! xgolden_run KIND FILE ..
+//! xgolden_run time register FILE TIMES
 //! ```
 //!
-//! A vector has words separated by spaces:
+//! KIND is `pe`, `image`, `anchor`, `questions`, `register` or `run`, which the heads of these modules
+//! describe. Words are separated by spaces. An empty line is printed between two files.
+//! `tools/golden/crates.py` makes vectors and golden output.
 //!
-//! ```text
-//! PROGRAM ROOM CALL NAME=OCTETS,.. WORD ..
-//! ```
-//!
-//! ROOM is the room of the sink, in octets. CALL is the call of the shelf that fails, counted from
-//! 0, or `-` for none. The files of the shelf have their octets in hexadecimal, `-` stands for no
-//! files or octets, and `OCTETS*COUNT` for these octets repeated. The words are those of the
-//! command line. A line is printed for each vector: the status and what the sink holds.
-//! `tools/golden/xgolden_run.py` makes vectors and golden output.
+//! After `time` the file has one vector. Its register is made, `usable` is called this often for the
+//! last certificate, and each certificate is verified, for `bench/register/register.py`.
 #![tactic(auto)]
 
-use anyhow::{Context, Result, bail};
-use demo_core::count_of;
-use program_frame::{MemShelf, MemSink};
+mod anchor;
+mod image;
+mod pe;
+mod questions;
+mod register;
+mod run;
+
+use anyhow::{Result, bail};
 use std::alloc::Global;
-use std::env;
-use xgolden::{octets_of, print_answers};
+use std::{fs, io};
+use xgolden::{answer_by, print_kinds, timed, words_of};
 
 fn main(rt: HostRuntime) -> Result<()> {
-    let words: Vec<String> = env::args(&rt)?.skip(1).collect(rt.alloc())?;
-    match words.as_slice() {
-        [path] => print_answers(&rt, path.as_str(), text_of),
-        _ => bail!("usage: xgolden_run FILE"),
-    }
-}
-
-fn text_of(alloc: Global, row: &str) -> Result<String> {
-    let words: Vec<&str> = row.split(' ').collect(alloc)?;
-    let [program, room, call, files, words @ ..] = words.as_slice() else {
-        bail!("a row has four words and those of a command line");
+    let words = words_of(&rt)?;
+    let Some((_, path, times)) = timed(&words) else {
+        return print_kinds(&rt, &words, answer);
     };
-    let mut shelf = shelf_of(alloc, files)?;
-    if *call != "-" {
-        shelf.fail_at(call.parse()?)?;
-    }
-    let mut sink = MemSink::with_room(alloc, room.parse()?)?;
-    let status = status_of(alloc, program, &owned(alloc, words)?, &mut shelf, &mut sink)?;
-    line_of(alloc, status, sink.held())
+    let row = fs::read_to_string(&rt, path)?;
+    let (row, out) = (row.trim_end(), &mut io::writer(&rt));
+    register::measure::print_times(rt.alloc(), &rt, row, times.parse()?, out)
 }
 
-/// The status of a run of a program.
-fn status_of(
-    alloc: Global,
-    program: &str,
-    words: &[String],
-    shelf: &mut MemShelf,
-    sink: &mut MemSink,
-) -> Result<u8> {
-    match program {
-        "picky" => match count_of(words) {
-            Some(count) => Ok(demo_core::run(alloc, count, sink)),
-            None => Ok(picky_check::run(alloc, words, shelf, sink)),
-        },
-        "picky_pe" => Ok(pe_image::run(alloc, words, shelf, sink)),
-        "picky_anchor" => Ok(trust_anchors::run(alloc, words, shelf, sink)),
-        "picky_ask" => Ok(signature_questions::run(alloc, words, shelf, sink)),
-        "picky_ca" => Ok(ca_register::run(alloc, words, shelf, sink)),
-        _ => bail!("no program has this name"),
+/// The output for a vector.
+fn answer(alloc: Global, kind: &str, row: &str) -> Result<String> {
+    match kind {
+        "pe" => answer_by(alloc, row, pe::print),
+        "image" => image::answer(alloc, row),
+        "anchor" => anchor::answer(alloc, row),
+        "questions" => questions::answer(alloc, row),
+        "register" => register::answer(alloc, row),
+        "run" => run::answer(alloc, row),
+        _ => bail!("no kind of vectors is called so"),
     }
-}
-
-/// A status, and what a sink holds without the newline at its end.
-fn line_of(alloc: Global, status: u8, held: &[u8]) -> Result<String> {
-    let held = held.strip_suffix(b"\n").unwrap_or(held);
-    let text = str::from_utf8(held).ok().context("a line is ASCII")?;
-    Ok(format!(in alloc; "{status} {text}")?)
-}
-
-fn shelf_of(alloc: Global, files: &str) -> Result<MemShelf> {
-    let mut shelf = MemShelf::new(alloc);
-    if files == "-" {
-        return Ok(shelf);
-    }
-    for file in files.split(',') {
-        let (name, word) = file.split_once('=').context("a file has a name")?;
-        shelf.add(name, &file_of(alloc, word)?)?;
-    }
-    Ok(shelf)
-}
-
-/// The octets of a file: a word in hexadecimal, or one and how often it is repeated.
-fn file_of(alloc: Global, word: &str) -> Result<Vec<u8>> {
-    let Some((octets, count)) = word.split_once('*') else {
-        return Ok(octets_of(alloc, word)?);
-    };
-    let octets = octets_of(alloc, octets)?;
-    let count: usize = count.parse()?;
-    let mut file = Vec::new(alloc);
-    for _ in 0..count {
-        file.extend_from_slice(&octets)?;
-    }
-    Ok(file)
-}
-
-fn owned(alloc: Global, words: &[&str]) -> Result<Vec<String>> {
-    let mut strings = Vec::new(alloc);
-    for word in words {
-        strings.push(String::from_str(alloc, word)?)?;
-    }
-    Ok(strings)
 }

@@ -1,29 +1,32 @@
-//! Output for a file of test vectors about OIDs, integers, strings, times and dates, for comparison
-//! with golden output.
+//! Output for files of test vectors about OIDs, strings, times, structures, names and keys, for
+//! comparison with golden output.
 //!
 //! ```text
-//! xgolden_value FILE
+//! xgolden_value KIND FILE ..
 //! ```
 //!
-//! A vector is a subject, a call and its arguments, separated by spaces. Octets and texts are in
-//! hexadecimal, `-` for none, other numbers in decimal. A line is printed for each vector.
-//! `tools/golden/xgolden_value.py` makes vectors and golden output.
+//! KIND is `value` or `structure`, which the heads of these modules describe, or `extension`, of
+//! structures too. Words are separated by spaces. Octets and texts are in hexadecimal, `-` for
+//! none, other numbers in decimal. A line is printed for each vector, and an empty one between two
+//! files. `tools/golden/crates.py` makes vectors and golden output.
 #![tactic(auto)]
 
-mod errors;
-mod identifiers;
-mod row;
-mod strings;
-mod times;
+mod structure;
+mod value;
 
 use anyhow::{Result, bail};
-use std::env;
-use xgolden::print_rows;
+use std::alloc::Global;
+use xgolden::{answer_by, print_kinds, words_of};
 
 fn main(rt: HostRuntime) -> Result<()> {
-    let words: Vec<String> = env::args(&rt)?.skip(1).collect(rt.alloc())?;
-    let [path] = words.as_slice() else {
-        bail!("usage: xgolden_value FILE");
-    };
-    print_rows(&rt, path.as_str(), row::print)
+    print_kinds(&rt, &words_of(&rt)?, answer)
+}
+
+/// The output for a vector.
+fn answer(alloc: Global, kind: &str, row: &str) -> Result<String> {
+    match kind {
+        "value" => answer_by(alloc, row, value::print),
+        "structure" | "extension" => answer_by(alloc, row, structure::print),
+        _ => bail!("no kind of vectors is called so"),
+    }
 }

@@ -1,5 +1,7 @@
-//! Tests of owned signed data and signatures: reading, writing, accessors, making and timestamping.
-//! `xgolden_check` has the results of their validator as data.
+//! Tests of owned signed data and signatures: reading, writing, accessors, making and timestamping;
+//! and of the public calls of `authenticode_core` with a signature file of the plain form, made by
+//! `tools/cases/first_path.py` with Python's standard library. `xgolden_check` has the results for
+//! changes of its parts, and of the validator of owned signatures, as data.
 #![tactic(auto)]
 
 #[cfg(test)]
@@ -9,9 +11,13 @@ mod building;
 #[cfg(test)]
 mod empty;
 #[cfg(test)]
+mod made;
+#[cfg(test)]
 mod making;
 #[cfg(test)]
 mod padded;
+#[cfg(test)]
+mod refusals;
 #[cfg(test)]
 mod requests;
 #[cfg(test)]
@@ -24,3 +30,5 @@ mod stamps;
 mod texts;
 #[cfg(test)]
 mod trust_lists;
+#[cfg(test)]
+mod values;

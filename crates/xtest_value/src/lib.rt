@@ -1,12 +1,24 @@
 //! Tests of what test vectors can't show, a hash, growing lists and values made by callers; of the
-//! public calls of `der_core`, beside the vectors of `xgolden_der`; and of those of `wincert_core`.
-//! The vectors of `xgolden_value` and `xgolden_structure` are the others.
+//! public calls of `der_core`, beside the vectors of `xgolden_der`; of those of `wincert_core`; and
+//! of those of `sig_core`: digests, signature algorithms, schemes; and of what `key_core` signs and
+//! accepts under a caller's own scheme, and of its texts. The vectors of `xgolden_value` are the
+//! others.
 #![tactic(auto)]
 
+#[cfg(test)]
+mod algorithms;
 #[cfg(test)]
 mod cursors;
 #[cfg(test)]
 mod decoding;
+#[cfg(test)]
+mod demo;
+#[cfg(test)]
+mod demo_rows;
+#[cfg(test)]
+mod digests;
+#[cfg(test)]
+mod elements;
 #[cfg(test)]
 mod encoding;
 #[cfg(test)]
@@ -26,4 +38,18 @@ mod reading;
 #[cfg(test)]
 mod refusals;
 #[cfg(test)]
+mod rows;
+#[cfg(test)]
+mod scheme;
+#[cfg(test)]
+mod signing;
+#[cfg(test)]
+mod tables;
+#[cfg(test)]
+mod texts;
+#[cfg(test)]
 mod values;
+#[cfg(test)]
+mod variants;
+#[cfg(test)]
+mod verdicts;

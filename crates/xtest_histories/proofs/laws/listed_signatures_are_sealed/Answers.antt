@@ -1,5 +1,0 @@
-use Rattle.xtest_histories.proofs.ListedRows.{sealed}
-use Rattle.xtest_histories.proofs.laws.listed_signatures_are_sealed.Goals as goal
-
-pub returns : goal.returns
-returns c = sealed
