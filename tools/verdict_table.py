@@ -42,6 +42,7 @@ table.
 
 import re
 import sys
+from binascii import unhexlify
 from collections.abc import Iterable, Iterator
 from enum import Enum
 from hashlib import blake2b, sha256
@@ -57,15 +58,18 @@ try:
     from cryptography.hazmat.primitives import hashes
     from cryptography.hazmat.primitives.asymmetric import ec, ed25519, padding, rsa
 except ImportError:
-    print(f"{Path(sys.argv[0]).name}: Python's package cryptography isn't there: install python3-cryptography", file=sys.stderr)
+    print(f"{Path(sys.argv[0]).name}: Python's package cryptography isn't there: install python3-cryptography",
+        file=sys.stderr)
     sys.exit(command.CANT)
 
 FIRST_LINE = "picky-verdicts 2"
-DIGESTS = {one.name: one for one in (hashes.MD5(), hashes.SHA1(), hashes.SHA224(), hashes.SHA256(), hashes.SHA384(), hashes.SHA512())}
+DIGESTS = {one.name: one for one in (hashes.MD5(), hashes.SHA1(), hashes.SHA224(), hashes.SHA256(), hashes.SHA384(),
+    hashes.SHA512())}
 CURVES = {"p256": ec.SECP256R1(), "p384": ec.SECP384R1(), "p521": ec.SECP521R1()}
 NAMES = {f"rsa-{digest}" for digest in DIGESTS} | {"p256-sha256", "p384-sha384", "p521-sha512", "ed25519"}
-QUESTION = re.compile(rf"((?:{'|'.join(sorted(NAMES))})(?: [0-9a-f]{{64}}){{3}}) ([0-9a-f]*) ([0-9a-f]*) ([0-9a-f]*)")
-REFUSED = re.compile(r"refused [A-Za-z0-9:]{1,80}")
+ROW = rf"(?:{'|'.join(sorted(NAMES))})(?: [0-9a-f]{{64}}){{3}}"
+QUESTION = re.compile(f"({ROW}) ([0-9a-f]*) ([0-9a-f]*) ([0-9a-f]*)".encode())
+REFUSED = re.compile(rb"refused [A-Za-z0-9:]{1,80}")
 PARTS = "key", "message", "signature"
 MOST_ASKED = 10_000
 
@@ -85,7 +89,7 @@ class Reason(Enum):
 
 
 class Finding(NamedTuple):
-    """What is found of a question: its number, its row and its algorithm; the verdict, None where there is no row; and why."""
+    """What is found of a question: its number, row and algorithm; the verdict, None where there is no row; and why."""
 
     place: int
     row: str
@@ -113,15 +117,17 @@ class Judged(NamedTuple):
 def verify(kind, digest, key, message, signature):
     """InvalidSignature where `cryptography` finds the signature false."""
     if kind == "rsa":
-        rsa.RSAPublicNumbers(key.exponent, key.modulus).public_key().verify(signature, message, padding.PKCS1v15(), DIGESTS[digest])
+        rsa.RSAPublicNumbers(key.exponent, key.modulus).public_key().verify(signature, message, padding.PKCS1v15(),
+            DIGESTS[digest])
     elif kind == "ed25519":
         ed25519.Ed25519PublicKey.from_public_bytes(key).verify(signature, message)
     else:
-        ec.EllipticCurvePublicNumbers(key.x, key.y, CURVES[kind]).public_key().verify(signature, message, ec.ECDSA(DIGESTS[digest]))
+        ec.EllipticCurvePublicNumbers(key.x, key.y, CURVES[kind]).public_key().verify(signature, message,
+            ec.ECDSA(DIGESTS[digest]))
 
 
 def is_accepted(kind, digest, key, message, signature) -> bool:
-    """Whether `cryptography` finds the signature true by a key in numbers; NotJudged where it doesn't compute with it."""
+    """Whether `cryptography` finds the signature true by a key in numbers; NotJudged where it doesn't compute."""
     try:
         verify(kind, digest, key, message, signature)
     except InvalidSignature:
@@ -152,30 +158,37 @@ def found_of(name, key, message, signature):
     }[found]
 
 
-def question_in(place: int, line: str) -> tuple[str, str, list[bytes]]:
-    """The row of the question on a line, its algorithm, and its key bytes, message and signature."""
+def question_in(place: int, line: bytes) -> tuple[str, list[bytes]]:
+    """The row of the question on a line, and its key bytes, message and signature."""
     found = QUESTION.fullmatch(line)
-    if found is None or any(len(part) % 2 for part in found.groups()[1:]):
-        raise NoTable(f"picky_ask says: {line}" if REFUSED.fullmatch(line) else f"question {place} isn't in the form of one")
-    (name, *digests), octets = found[1].split(" "), [bytes.fromhex(part) for part in found.groups()[1:]]
-    for part, digest, held in zip(PARTS, digests, octets):
+    spans = [found.span(part) for part in (2, 3, 4)] if found else []
+    if found is None or any((end - begin) % 2 for begin, end in spans):
+        if REFUSED.fullmatch(line):
+            raise NoTable(f"picky_ask says: {line.decode()}")
+        raise NoTable(f"question {place} isn't in the form of one")
+    row = found[1].decode("ascii")
+    # A line may have many megabytes: no part of it is copied.
+    octets = [unhexlify(memoryview(line)[begin:end]) for begin, end in spans]
+    for part, digest, held in zip(PARTS, row.split(" ")[1:], octets):
         if sha256(held).hexdigest() != digest:
             raise NoTable(f"question {place} has another SHA-256 than that of its {part}")
-    return found[1], name, octets
+    return row, octets
 
 
-def rows_of(lines: Iterable[str]) -> Judged:
+def rows_of(lines: Iterable[str | bytes]) -> Judged:
     """The table for lines without their newline, and what is found of each; NoTable where one is no question."""
     verdicts, findings, seen = {}, [], set()
     for line in lines:
-        # A line may be long, and 10,000 of them need not stay.
-        own = blake2b(line.encode(errors="backslashreplace")).digest()
+        line = line.encode(errors="backslashreplace") if isinstance(line, str) else line
+        # Of each line its digest stays, and nothing else of it.
+        own = blake2b(line).digest()
         if own in seen:
             continue
         if len(seen) == MOST_ASKED:
             raise NoTable(f"more than {MOST_ASKED} signatures are asked for")
         seen.add(own)
-        row, name, octets = question_in(len(seen), line)
+        row, octets = question_in(len(seen), line)
+        name = row.partition(" ")[0]
         one = Finding(len(seen), row, name, *found_of(name, *octets))
         findings.append(one)
         if one.verdict is not None and verdicts.setdefault(row, one.verdict) != one.verdict:
@@ -189,14 +202,14 @@ def table_of(text: str) -> tuple[list[str], list[str]]:
     return judged.rows, judged.lacking()
 
 
-def lines_in(stream: Iterable[bytes]) -> Iterator[str]:
+def lines_in(stream: Iterable[bytes]) -> Iterator[bytes]:
     """The lines of a stream, which end by one newline each."""
     for line in stream:
         if not line.isascii():
             raise NoTable("an octet of the questions is past ASCII")
         if not line.endswith(b"\n"):
             raise NoTable("the last question has no newline at its end")
-        yield line[:-1].decode("ascii")
+        yield line[:-1]
 
 
 def main(arguments):

@@ -17,8 +17,10 @@ GENERATORS = {
         0xaa87ca22_be8b0537_8eb1c71e_f320ad74_6e1d3b62_8ba79b98_59f741e0_82542a38_5502f25d_bf55296c_3a545e38_72760ab7,
         0x3617de4a_96262c6f_5d9e98bf_9292dc29_f8f41dbd_289a147c_e9da3113_b5f0b8c0_0a60b1ce_1d7e819d_7a431d7c_90ea0e5f),
     "p521": (
-        0xc6_858e06b7_0404e9cd_9e3ecb66_2395b442_9c648139_053fb521_f828af60_6b4d3dba_a14b5e77_efe75928_fe1dc127_a2ffa8de_3348b3c1_856a429b_f97e7e31_c2e5bd66,
-        0x118_39296a78_9a3bc004_5c8a5fb4_2c7d1bd9_98f54449_579b4468_17afbd17_273e662c_97ee7299_5ef42640_c550b901_3fad0761_353c7086_a272c240_88be9476_9fd16650),
+        int("c6858e06b70404e9cd9e3ecb662395b4429c648139053fb521f828af606b4d3dba"
+            "a14b5e77efe75928fe1dc127a2ffa8de3348b3c1856a429bf97e7e31c2e5bd66", 16),
+        int("11839296a789a3bc0045c8a5fb42c7d1bd998f54449579b446817afbd17273e662c"
+            "97ee72995ef42640c550b9013fad0761353c7086a272c24088be94769fd16650", 16)),
 }
 
 
@@ -90,7 +92,7 @@ class Curve(NamedTuple):
         return r, (self.hashed(digest) + r * secret) * pow(factor, -1, self.order) % self.order
 
     def key_for(self, random, s, digest):
-        """The key by which the first coordinate of a point and s are a signature (SEC 1 4.1.6), and these two numbers."""
+        """The key by which r, of a random point, and s are a signature (SEC 1 4.1.6), and these two numbers."""
         r = random[0] % self.order
         key = self.sum(self.times(s, random), self.times(-self.hashed(digest), self.generator))
         return self.times(pow(r, -1, self.order), key), (r, s)

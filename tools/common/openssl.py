@@ -17,7 +17,7 @@ class OpensslError(Refusal):
 
 
 def openssl(*words, given=None):
-    """What openssl writes for these words.  It may not skip an attribute that it doesn't know, and asks nobody for a pass phrase."""
+    """What openssl writes for these words.  It may not skip an attribute that it doesn't know, and asks for nothing."""
     try:
         run = called(["openssl", *words], given, SECONDS)
     except (FileNotFoundError, TimedOut) as refusal:

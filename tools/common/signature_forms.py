@@ -18,8 +18,10 @@ CURVES = {
         0xffffffff_ffffffff_ffffffff_ffffffff_ffffffff_ffffffff_c7634d81_f4372ddf_581a0db2_48b0a77a_ecec196a_ccc52973),
     "p521": (
         2**521 - 1,
-        0x51_953eb961_8e1c9a1f_929a21a0_b68540ee_a2da725b_99b315f3_b8b48991_8ef109e1_56193951_ec7e937b_1652c0bd_3bb1bf07_3573df88_3d2c34f1_ef451fd4_6b503f00,
-        0x1ff_ffffffff_ffffffff_ffffffff_ffffffff_ffffffff_ffffffff_ffffffff_fffffffa_51868783_bf2f966b_7fcc0148_f709a5d0_3bb5c9b8_899c47ae_bb6fb71e_91386409),
+        int("51953eb9618e1c9a1f929a21a0b68540eea2da725b99b315f3b8b489918ef109e1"
+            "56193951ec7e937b1652c0bd3bb1bf073573df883d2c34f1ef451fd46b503f00", 16),
+        int("1fffffffffffffffffffffffffffffffffffffffffffffffffffffffffffffffffa"
+            "51868783bf2f966b7fcc0148f709a5d03bb5c9b8899c47aebb6fb71e91386409", 16)),
 }
 # RFC 8032 5.1: the prime, the coefficient d, the order of the group.
 ED25519_PRIME = 2**255 - 19
@@ -64,7 +66,10 @@ def number(octets):
 # Two positive INTEGERs in DER.
 
 def element(octets, tag):
-    """The contents of the element that octets begin with, and the octets behind it; None where they begin with none of this tag in DER (X.690 8.1.3, 10.1)."""
+    """The contents of the element that octets begin with, and the octets behind it.
+
+    None where they begin with none of this tag in DER (X.690 8.1.3, 10.1).
+    """
     if len(octets) < 2 or octets[0] != tag:
         return None
     length, begin = octets[1], 2
@@ -78,15 +83,17 @@ def element(octets, tag):
 
 
 def positive(octets):
-    """The positive number that octets begin with as an INTEGER, in as few octets as it has (X.690 8.3), and the octets behind it; else None."""
+    """The positive number that octets begin with as an INTEGER (X.690 8.3), and the octets behind it; else None."""
     found = element(octets, 0x02)
-    if found is None or not found[0] or found[0][0] >= 0x80 or found[0] == b"\0" or (found[0][0] == 0 and found[0][1] < 0x80):
+    if found is None or not found[0] or found[0][0] >= 0x80 or found[0] == b"\0":
         return None
-    return number(found[0]), found[1]
+    contents, rest = found
+    # In as few octets as the number has.
+    return None if contents[0] == 0 and contents[1] < 0x80 else (number(contents), rest)
 
 
 def pair(octets):
-    """The two numbers of a SEQUENCE of two positive INTEGERs, in DER with nothing behind; None where octets are none."""
+    """The two numbers of a SEQUENCE of two positive INTEGERs, in DER with nothing behind; else None."""
     found = element(octets, 0x30)
     first = positive(found[0]) if found is not None and not found[1] else None
     second = positive(first[1]) if first is not None else None
@@ -124,7 +131,7 @@ def rsa_key(octets):
 
 
 def point(curve, octets):
-    """SEC 1 2.3.4: 04 and both coordinates, or 02 or 03, by the last bit of the second one, and the first; both are below the prime."""
+    """SEC 1 2.3.4: 04 and both coordinates, or 02 or 03, by the last bit of the second one, and the first."""
     prime, b, _ = CURVES[curve]
     length = (prime.bit_length() + 7) // 8
     x, rest = number(octets[1:1 + length]), octets[1 + length:]

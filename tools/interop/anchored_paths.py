@@ -10,7 +10,7 @@ with RSA keys: those of `drawn_anchors.py`, with cross certificates, loops, two 
 one name, expired doubles and path lengths; and over the roots of Debian's package
 ca-certificates cross certificates by other CAs, roots of the same names with other
 keys, and certificates that these issued.  COUNT pools are drawn, of up to 32
-certificates and 8 anchors.  `verdict_table` says by openssl's arithmetic which
+certificates and 8 anchors.  `verdict_table` says which
 signatures are good.
 
 All three look for a path at the same moment, the other two with the anchors as their

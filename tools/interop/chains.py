@@ -8,7 +8,7 @@ Usage:
 
 The first writes FOLDER/chain_certificates.txt and FOLDER/chain_table.txt anew:
 openssl (3.0 or later) makes the certificates of `KINDS` below, the keys fresh
-each time, and `verdict_table` says by openssl's arithmetic which signatures of
+each time, and `verdict_table` says which signatures of
 the cases are good.  A row of the first file is a label and a certificate in
 base64, a bar between.
 

@@ -1,4 +1,4 @@
-"""Questions of `picky_ask` with other octets: each octet of key and signature changed, left out and doubled, cuts, and other names."""
+"""Questions of `picky_ask` with each octet of key and signature changed, left out and doubled, and other names."""
 
 from hashlib import sha256
 from typing import NamedTuple

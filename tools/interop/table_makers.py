@@ -1,5 +1,5 @@
 #!/usr/bin/env python3
-"""Compare the makers of verdict tables: `verdict_table.py`, over Python's `cryptography`, and `verdict_table.c`, over libcrypto.
+"""Compare the makers of verdict tables: `verdict_table.py`, over `cryptography`, and `verdict_table.c`, over libcrypto.
 
 Usage:
 
@@ -175,19 +175,22 @@ class Comparison:
         rows = verdicts(made.table)
         for line, one in known.items():
             found = rows.get(" ".join(line.split(" ")[:4]))
-            self.expect(found == one.verdict, f"{one.name}, {one.label}: {found or 'no row'}, where {one.verdict or 'no row'} is right")
+            self.expect(found == one.verdict,
+                f"{one.name}, {one.label}: {found or 'no row'}, where {one.verdict or 'no row'} is right")
 
     def summary(self):
         """A line on what was compared."""
         found = ", ".join(f"{many} {verdict}" for verdict, many in sorted(self.verdicts.items()))
-        return f"{self.questions} questions to {len(self.commands)} makers ({found}), {len(self.differences)} differences"
+        many = len(self.differences)
+        return f"{self.questions} questions to {len(self.commands)} makers ({found}), {many} differences"
 
 
 def first_difference(one, other):
     """Where two answers differ first."""
     if one.status != other.status:
         return f"status {one.status} and {other.status}"
-    for what, lines in ("row", (one.table.splitlines(), other.table.splitlines())), ("sentence", (one.said, other.said)):
+    for what, lines in ("row", (one.table.splitlines(), other.table.splitlines())), ("sentence",
+            (one.said, other.said)):
         for place, (first, second) in enumerate(zip_longest(*lines)):
             if first != second:
                 return f"{what} {place} is {first!r} and {second!r}"
@@ -227,7 +230,8 @@ class OfProgram:
         lines = pool_questions.questions(Programs(self.program.parent), self.written(files))
         self.pools += 1
         listed = "".join(f"{line}\n" for line in lines)
-        self.comparison.expect((0, listed) == question_judge.of_pool(files), f"{label}: pool_questions.py prints otherwise than question_judge lists")
+        self.comparison.expect((0, listed) == question_judge.of_pool(files),
+            f"{label}: pool_questions.py prints otherwise than question_judge lists")
         known = "".join(f"{line}\n" for line in asked_signatures.pool_table(files, 2)[0])
         self.comparison.expect(verdicts(table) == verdicts(known), f"{label}: the table of the pool is another")
 

@@ -1,4 +1,4 @@
-"""Tests of the makers of verdict tables: hostile questions, with verdicts by hand, to both; what is said; forms of keys.
+"""Tests of the makers of verdict tables: hostile questions, with verdicts by hand; what is said; forms; calls.
 
     python3 -m unittest discover -s tools/tests
 """
@@ -27,6 +27,7 @@ from interop.question_changes import Question
 from judges import question_judge
 from verdict_table import Reason
 
+IN_TOOLS = f"import sys; sys.path.insert(0, {str(folders.ROOT / 'tools')!r})\n"
 FILE = (folders.CRATES / "picky/data/signed.bin").read_bytes()
 
 
@@ -36,6 +37,8 @@ def lines():
 
 class MakersTest(unittest.TestCase):
     """Both makers, on the same questions."""
+
+    SECONDS = 12
 
     @classmethod
     def setUpClass(cls):
@@ -58,9 +61,11 @@ class MakersTest(unittest.TestCase):
 
     def test_changes(self):
         """Some changes of real questions and of some of each curve; of those of its own key none is accepted."""
-        bases = [Question.of(lines()[0]), *(Question.of(one.line()) for one in hostile_questions.ed25519_signatures() if one.verdict == "accept")]
+        bases = [Question.of(lines()[0]),
+            *(Question.of(one.line()) for one in hostile_questions.ed25519_signatures() if one.verdict == "accept")]
         for base in bases:
-            changed = [one.line() for place, one in enumerate(question_changes.of(base)) if place < 9 or place % 11 == 0]
+            changed = [one.line() for place,
+                one in enumerate(question_changes.of(base)) if place < 9 or place % 11 == 0]
             found = self.comparison()
             found.many(base.name, changed)
             self.assertEqual((found.differences, found.verdicts["accept"]), ([], 0))
@@ -76,7 +81,8 @@ class MakersTest(unittest.TestCase):
         self.assertIn("a line, from 0: other answers otherwise: status 0 and 1", found.differences[1])
 
     def test_too_many(self):
-        many = [Question("rsa-md5", b"", place.to_bytes(2, "big"), b"").line() for place in range(verdict_table.MOST_ASKED + 1)]
+        many = [Question("rsa-md5", b"", place.to_bytes(2, "big"),
+            b"").line() for place in range(verdict_table.MOST_ASKED + 1)]
         made = self.comparison().of_lines("too many", many)
         self.assertEqual(made, (1, "", ["more than 10000 signatures are asked for"]))
         made = self.comparison().of_lines("many, some of them twice", many[1:] + many[1:20])
@@ -86,10 +92,13 @@ class MakersTest(unittest.TestCase):
         """What `picky_ask` answers is repeated where it is a refusal, and nothing else of a line is."""
         found = self.comparison()
         for line, why in (
-            ("refused WrongLength", "picky_ask says: refused WrongLength"), ("refused InvalidChain:NoRoot", "picky_ask says: refused InvalidChain:NoRoot"),
-            ("refused \x1b[2J", None), ("refused ", None), ("refused a b", None), ("refused " + "a" * 81, None), ("refused a\0", None), ("refused", None),
+            ("refused WrongLength", "picky_ask says: refused WrongLength"),
+            ("refused InvalidChain:NoRoot", "picky_ask says: refused InvalidChain:NoRoot"),
+            ("refused \x1b[2J", None), ("refused ", None), ("refused a b", None), ("refused " + "a" * 81, None),
+            ("refused a\0", None), ("refused", None),
         ):
-            self.assertEqual(found.of_lines(repr(line), [line]), (1, "", [why or "question 1 isn't in the form of one"]))
+            self.assertEqual(found.of_lines(repr(line), [line]),
+                (1, "", [why or "question 1 isn't in the form of one"]))
         self.assertEqual(found.differences, [])
 
 
@@ -101,10 +110,12 @@ class ModuleTest(unittest.TestCase):
         parts = hostile_questions.MESSAGE, one.signature()
         accepted = Question("rsa-sha256", one.octets, *parts)
         asked = [
-            (accepted, "accept", Reason.ACCEPTED, ""), (accepted._replace(message=b""), "reject", Reason.FALSE, "not accepted as rsa-sha256"),
+            (accepted, "accept", Reason.ACCEPTED, ""),
+            (accepted._replace(message=b""), "reject", Reason.FALSE, "not accepted as rsa-sha256"),
             (accepted._replace(signature=b""), "malformed", Reason.SIGNATURE_FORM, "malformed as rsa-sha256"),
             (accepted._replace(key=b""), None, Reason.KEY_FORM, "it has no row: its key isn't an RSAPublicKey in DER"),
-            (accepted._replace(key=hostile_questions.pair(1 << 16_384 | 1, 3)), None, Reason.UNSUPPORTED, "it has no row: the modulus of its key has more than 16384 bits"),
+            (accepted._replace(key=hostile_questions.pair(1 << 16_384 | 1, 3)), None, Reason.UNSUPPORTED,
+            "it has no row: the modulus of its key has more than 16384 bits"),
         ]
         judged = verdict_table.rows_of(question.line() for question, *_ in asked)
         for place, (found, (question, verdict, reason, why)) in enumerate(zip(judged.findings, asked, strict=True), 1):
@@ -120,9 +131,17 @@ class ModuleTest(unittest.TestCase):
             self.assertRegex(line, r"\Aquestion [0-9]+: [A-Za-z0-9 '.,:-]{1,100}\Z")
 
     def test_no_question(self):
-        for line in "", "\udcff", "a\nb", lines()[0] + "\n", lines()[0].replace("rsa", "r\u0455a"):
+        first = lines()[0]
+        for line in "", "\udcff", "a\nb", first + "\n", first.replace("rsa",
+                "r\u0455a"), first[:-1], first + " ", first.upper(), first.replace(" ", "  ", 1):
             with self.assertRaisesRegex(verdict_table.NoTable, "question 1 isn't in the form of one"):
                 verdict_table.rows_of([line])
+        words = first.split(" ")
+        for place, part in (4, "key"), (5, "message"), (6, "signature"):
+            changed = " ".join([*words[:place], words[place] + "00", *words[place + 1:]])
+            with self.assertRaisesRegex(verdict_table.NoTable,
+                    f"question 1 has another SHA-256 than that of its {part}"):
+                verdict_table.rows_of([changed])
 
     def test_a_long_line_is_quick(self):
         """A key, a message and a signature of 4 MB each."""
@@ -138,10 +157,12 @@ class ModuleTest(unittest.TestCase):
         with TemporaryDirectory() as folder:
             Path(folder, "cryptography.py").write_text("raise ImportError('not here')\n", encoding="ascii")
             for script in "verdict_table.py", "check_program.py":
-                done = subprocess.run([sys.executable, folders.ROOT / "tools" / script], stdin=subprocess.DEVNULL, capture_output=True, text=True,
+                done = subprocess.run([sys.executable, folders.ROOT / "tools" / script], stdin=subprocess.DEVNULL,
+                    capture_output=True, text=True,
                                       env={**environ, "PYTHONPATH": folder})
                 self.assertEqual((done.returncode, done.stdout), (2, ""))
-                self.assertEqual(done.stderr, f"{script}: Python's package cryptography isn't there: install python3-cryptography\n")
+                self.assertEqual(done.stderr,
+                    f"{script}: Python's package cryptography isn't there: install python3-cryptography\n")
 
 
 class FormsTest(unittest.TestCase):
@@ -162,9 +183,12 @@ class FormsTest(unittest.TestCase):
         # X.690 8.1.3, 8.3, 10.1.
         for octets, numbers in (
             ("3006 020101 020102", (1, 2)), ("3007 02020080 020102", (128, 2)), ("3007 02017f 02020100", (127, 256)),
-            ("3006 020100 020102", None), ("3006 020181 020102", None), ("3007 02020001 020102", None), ("3006 0200 02020102", None),
-            ("308106 020101 020102", None), ("3006 02810101 0201", None), ("3006 020101 020102 00", None), ("3009 020101 020102 020103", None),
-            ("3003 020101", None), ("3080 020101 020102 0000", None), ("3006 020101 0201", None), ("", None), ("30", None), ("3082", None), ("308400", None),
+            ("3006 020100 020102", None), ("3006 020181 020102", None), ("3007 02020001 020102", None),
+            ("3006 0200 02020102", None),
+            ("308106 020101 020102", None), ("3006 02810101 0201", None), ("3006 020101 020102 00", None),
+            ("3009 020101 020102 020103", None),
+            ("3003 020101", None), ("3080 020101 020102 0000", None), ("3006 020101 0201", None), ("", None),
+            ("30", None), ("3082", None), ("308400", None),
         ):
             self.assertEqual(signature_forms.pair(bytes.fromhex(octets)), numbers, octets)
         long = b"\2\x81\x80\1" + bytes(127)
@@ -177,16 +201,27 @@ class CallsTest(unittest.TestCase):
 
     def test_no_terminal(self):
         """Even where this process has one: a child of it can't open it, and reads nothing."""
-        code = "import os, sys; print(repr(sys.stdin.read()), os.getsid(0) == os.getpid())\ntry: os.open('/dev/tty', os.O_RDWR)\nexcept OSError: print('no terminal')"
-        driver = f"import sys; sys.path.insert(0, {str(folders.ROOT / 'tools')!r})\nfrom common.calls import called\nprint(called([sys.executable, '-c', {code!r}]).stdout.decode())"
+        code = """
+import os, sys
+print(repr(sys.stdin.read()), os.getsid(0) == os.getpid())
+try: os.open('/dev/tty', os.O_RDWR)
+except OSError: print('no terminal')
+"""
+        driver = f"""{IN_TOOLS}
+from common.calls import called
+print(called([sys.executable, '-c', {code!r}]).stdout.decode())
+"""
         told, status = in_terminal([sys.executable, "-c", driver])
         self.assertEqual((told.split(), status), (["''", "True", "no", "terminal"], 0))
 
     def test_a_pass_phrase(self):
         """openssl asks nobody, and ends."""
         encrypted = hostile_questions.pem("RSA PRIVATE KEY", bytes(64), hostile_questions.ENCRYPTED)
-        driver = (f"import sys; sys.path.insert(0, {str(folders.ROOT / 'tools')!r})\nfrom common.openssl import OpensslError, openssl\n"
-                  f"try: openssl('pkey', '-noout', given={encrypted!r})\nexcept OpensslError: print('refused')")
+        driver = f"""{IN_TOOLS}
+from common.openssl import OpensslError, openssl
+try: openssl('pkey', '-noout', given={encrypted!r})
+except OpensslError: print('refused')
+"""
         begun = monotonic()
         told, status = in_terminal([sys.executable, "-c", driver])
         self.assertEqual((told.split(), status), (["refused"], 0))
@@ -203,7 +238,8 @@ class CallsTest(unittest.TestCase):
             self.assertTrue(is_gone(int(file.read_text(encoding="ascii"))))
 
     def test_openssl_that_isnt_there(self):
-        with patch.dict(environ, {"PATH": "/none"}), self.assertRaisesRegex(openssl.OpensslError, r"\Aopenssl isn't there\Z"):
+        with patch.dict(environ, {"PATH": "/none"}), self.assertRaisesRegex(openssl.OpensslError,
+                r"\Aopenssl isn't there\Z"):
             openssl.openssl("version")
 
     def test_openssl_that_doesnt_end(self):
