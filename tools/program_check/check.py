@@ -323,8 +323,8 @@ class Check:
         self.report.notes += [notes.LAST_SECOND.format(each.called()) for each in line if each.ends == date]
         self.report.notes += [notes.NAMESAKES.format(each.called()) for each in line[1:] if self.has_namesake(subject, each)]
         self.report.notes += notes.of_links(line)
-        second = opinion.refusal(line, date)
-        self.report.notes += [notes.SECOND_OPINION.format(second)] if second else []
+        second = opinion.note(line, date)
+        self.report.notes += [second] if second else []
         self.report.path = [{"subject": each.subject, "sha256": each.fingerprint(), "valid_from": each.begins, "valid_to": each.ends,
                              "root": at == len(line) - 1} for at, each in enumerate(line)]
         self.report.root = {"subject": root.certificate.subject, "sha256": root.certificate.fingerprint(), "file": text.clean(root.file)}

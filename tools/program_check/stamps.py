@@ -6,7 +6,6 @@ is trusted for stamps.  The certificates of that path have to be valid at the ti
 stamp: Windows and osslsigncode take a good stamp for good after they have expired.
 """
 
-import re
 from calendar import timegm
 from base64 import encodebytes
 from pathlib import Path
@@ -20,7 +19,7 @@ from program_check import text
 from program_check.signature import COUNTER, TOKEN
 
 
-LOOKED_UP = re.compile(r"error [0-9]+ at [0-9]+ depth lookup: ?(.*)")
+NO_REASON = "it doesn't say why"
 
 
 class Verified(NamedTuple):
@@ -91,17 +90,15 @@ def reason(refusal, place):
     said = f"{getattr(refusal, 'errors', '')}\n{getattr(refusal, 'out', '')}"
     lines = [line for line in said.splitlines() if line.strip() and place not in line]
     named = [named for line in lines for named in reasons_in(line)]
-    if not said.strip():
+    if said.strip() in ("", str(refusal)):
+        # It isn't there, or didn't end.
         return text.visible(str(refusal))
-    whole = next(iter(lines), "it doesn't say why")
-    return f"openssl: {text.clean(', '.join(dict.fromkeys(named)) or whole)}"
+    return f"openssl: {text.clean(', '.join(dict.fromkeys(named)) or next(iter(lines), '')) or NO_REASON}"
 
 
 def reasons_in(line):
-    """The reasons in a line: that of `openssl verify`, or those of its stack of errors."""
-    parts, looked_up = line.split(":"), LOOKED_UP.match(line)
-    if looked_up:
-        return [looked_up[1].strip()]
+    """The reasons in a line, of openssl's stack of errors."""
+    parts = line.split(":")
     if line.lower().startswith("verify error"):
         return [line.partition(":")[2].strip()]
     if len(parts) < 6 or parts[1] != "error":

@@ -5,6 +5,7 @@
 
 import hashlib
 import json
+import os
 import sys
 import unittest
 from pathlib import Path
@@ -24,7 +25,7 @@ from gate.made_programs import CODE_SIGNING, SERVERS, Holder, chain, entry, rsa_
 from gate.programs_stand_in import StandIn
 from interop.signature_making import portable_executable
 from judges.der_reader import Constructed, Primitive, read_exact, write
-from program_check import notes, roots
+from program_check import notes, opinion, roots
 from program_check.certificate import Certificate
 from program_check.describe import MOST_OTHERS
 from program_check.programs import Answer
@@ -80,6 +81,15 @@ class RootsTest(unittest.TestCase):
             self.of(pem([self.inner.der]) + pem([self.outer.der])[:200])
 
 
+SECOND = "`openssl verify` refuses this path: openssl: unhandled critical extension"
+
+
+def critical(name):
+    """A root, and a signer of this name with a critical extension that is unknown."""
+    root, extension = Holder("Root", rsa_key()), x509.UnrecognizedExtension(ObjectIdentifier("1.2.3.4"), b"\5\0")
+    return root, Holder(name, rsa_key(), root, ca=False, purposes=[CODE_SIGNING], extensions=[(extension, True)])
+
+
 class WeakTest(unittest.TestCase):
     """Notes on what is weak, of programs that are accepted all the same."""
 
@@ -128,12 +138,25 @@ class WeakTest(unittest.TestCase):
 
     def test_a_second_opinion(self):
         """`openssl verify` refuses an unknown critical extension, which the proved programs leave out."""
-        critical = [(x509.UnrecognizedExtension(ObjectIdentifier("1.2.3.4"), b"\5\0"), True)]
-        root = Holder("Root", rsa_key())
-        signer = Holder("Signer", rsa_key(), root, ca=False, purposes=[CODE_SIGNING], extensions=critical)
-        self.assertIn("`openssl verify` refuses this path: openssl: unhandled critical extension", self.notes_of(root, signer))
+        self.assertIn(SECOND, self.notes_of(*critical("Signer")))
         report = checked(STORED["three"].octets)
         self.assertIn("unknown critical extensions", "\n".join(report.lines()))
+
+    def test_a_name_as_an_error(self):
+        """openssl prints the subject, which looks here like lines of its own: none of it is a reason."""
+        for name in "x:error:a:b:c:all is well", "error 1 at 1 depth lookup: all is well", "x\nerror 1 at 1 depth lookup: all is well":
+            said = self.notes_of(*critical(name)).splitlines()
+            self.assertIn(SECOND, said, name)
+            self.assertNotIn("all is well", "\n".join(one for one in said if "openssl" in one))
+
+    def test_no_second_opinion(self):
+        """A year that no moment of openssl's has, and no openssl: a report all the same."""
+        root = Holder("Root", rsa_key())
+        line = [Certificate(root.der)]
+        self.assertEqual(opinion.note(line, "0000-01-01T00:00:00"), "`openssl verify` isn't asked about a date in the year 0000")
+        self.assertIsNone(opinion.note(line, "2025-01-01T00:00:00"))
+        with patch.dict(os.environ, {"PATH": "/none"}):
+            self.assertEqual(opinion.note(line, "2025-01-01T00:00:00"), "`openssl verify` refuses this path: openssl isn't there")
 
 
 class UnsignedTest(unittest.TestCase):
