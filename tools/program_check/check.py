@@ -92,10 +92,11 @@ def check(question):
             Check(question, report, anchors.Files(Path(folder))).run()
     except NotChecked as refusal:
         report.not_checked(refusal.status, str(refusal))
-    except NotRead as refusal:
+    except (NotRead, LookupError, ValueError) as refusal:
         # Nothing that is shown of a file decides: one that can't be shown isn't accepted.
+        why = str(refusal) if isinstance(refusal, NotRead) else "it has another form than any that is known here"
         report.root, report.path, report.signer_verified = None, [], False
-        report.refuse(f"the signature has a part that isn't read here: {refusal}", reasons.OTHER_TOOLS)
+        report.refuse(f"the signature has a part that isn't read here: {why}", reasons.OTHER_TOOLS)
     except Disagreement as refusal:
         report.root, report.path, report.signer_verified = None, [], False
         report.refuse(f"the programs disagree: {refusal}", "one of them was replaced or is damaged: build them anew")
@@ -337,7 +338,7 @@ class Check:
     def refuse_signature(self, subject, name, asked):
         """The signature is refused: why."""
         certificate = subject.certificate()
-        words = explain.words_of([certificate], 0, asked.date) if certificate is not None else {}
+        words = {"date": text.shown_moment(asked.date)} if certificate is None else explain.words_of([certificate], 0, asked.date)
         sentence, then = reasons.of_signature(name, subject, asked.table, words)
         if name == reasons.DIGEST and not self.alone:
             sentence, then = self.of_the_digest(subject) or (sentence, then)

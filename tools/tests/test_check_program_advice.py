@@ -20,13 +20,13 @@ from cryptography.hazmat.primitives.asymmetric import dsa, ec
 
 import pool_questions
 import signed_program
-from gate.check_program_calls import LATER, STORED, changed, checked, namesakes
+from gate.check_program_calls import LATER, STORED, Stub, changed, checked, namesakes
 from gate.made_programs import CODE_SIGNING, Holder, chain, curve_key, entry, rsa_key, signed, with_table
 from gate.programs_stand_in import StandIn
 from interop import signed_programs
 from interop.signature_making import portable_executable
 from judges.der_reader import read_exact, write
-from program_check import asking
+from program_check import asking, reasons
 from program_check.certificate import Certificate
 from program_check.programs import Answer
 from program_check.roots import Root, Roots
@@ -148,6 +148,20 @@ class SignatureTest(unittest.TestCase):
         self.assertEqual(report.reason, "SignatureError")
         self.assertIn("wasn't asked about", report.sentence)
         self.assertNotIn("forged", report.sentence + report.next)
+
+    def test_a_signer_that_isnt_read(self):
+        """Whatever a program refuses, there is a sentence, also where no certificate is read that it could be about."""
+        octets = signed(chain()[1], [])
+        for name in reasons.PROGRAM | reasons.SIGNATURE | reasons.CHAIN:
+            report = checked(octets, programs=Stub("picky_pe", 1, f"refused {name}\n"), at="2031-01-01")
+            self.assertEqual((report.verdict, report.reason, report.signer), ("refused", name, None))
+            self.assertNotRegex(report.sentence + report.next, "[{}]")
+        report = checked(octets, programs=Stub("picky_pe", 1, f"refused {reasons.EXPIRED}\n"), at="2031-01-01")
+        self.assertEqual(report.sentence, "the certificate that isn't read here was valid until a moment that isn't read here, and the date is 2031-01-01 00:00:00 UTC")
+        # Nor is one where the signature isn't read at all.
+        for name in reasons.CHAIN:
+            report = checked(with_table(portable_executable(), pack("<IHH", 16, 0x0200, 2) + bytes(8)), programs=Stub("picky_pe", 1, f"refused {name}\n"))
+            self.assertEqual((report.verdict, report.reason), ("refused", name))
 
     def test_longer_than_is_read(self):
         report = checked(b"MZ" + bytes(16_777_215))

@@ -239,6 +239,11 @@ class UnsignedTest(unittest.TestCase):
             report = self.report(signed(self.signer, [self.signer.der]))
         self.assertEqual((report.verdict, report.status, report.root), ("refused", 1, None))
         self.assertIn("a part that isn't read here: an element is cut off", report.sentence)
+        for error in IndexError("x"), KeyError("x"), ValueError("x"):
+            with patch("program_check.check.describe", side_effect=error):
+                report = self.report(signed(self.signer, [self.signer.der]))
+            self.assertEqual((report.verdict, report.status, report.root), ("refused", 1, None))
+            self.assertIn("a part that isn't read here: it has another form", report.sentence)
 
     def test_a_long_digest(self):
         """A signed digest of a million octets is no digest, and isn't shown whole."""
