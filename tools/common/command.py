@@ -1,7 +1,8 @@
-"""How the scripts are called: their words, what `--help` prints, the files that they read, what is printed of bad input, and how they end."""
+"""How the scripts are called: their words and `--help`, the files that they read, what is printed of bad input, and how they end."""
 
 import argparse
 import os
+import re
 import signal
 import stat
 import sys
@@ -10,7 +11,7 @@ from functools import wraps
 from pathlib import Path
 from subprocess import CalledProcessError
 
-from common.shown import clean
+from common.shown import clean, visible
 
 CANT = 2
 HELP = (["--help"], ["-h"])
@@ -40,6 +41,10 @@ class Wrong(Refusal):
 
 # Words.
 
+# What argparse says ahead of a word that somebody wrote; the last ones it puts between quotation marks.
+OF_WORDS = re.compile(r"(unrecognized arguments: )(.*)()|((?:explicit argument|value:|choice:) ['\"])(.*)(['\"])")
+
+
 class Parser(argparse.ArgumentParser):
     """The words of a script: options aren't abbreviated, and help is asked for by the sole word."""
 
@@ -47,7 +52,12 @@ class Parser(argparse.ArgumentParser):
         super().__init__(add_help=False, allow_abbrev=False)
 
     def error(self, message: str):
-        raise Wrong(clean(" ".join(message.split())))
+        raise Wrong(visible(OF_WORDS.sub(escaped_word, " ".join(message.split()), count=1)))
+
+
+def escaped_word(found: re.Match) -> str:
+    before, word, behind = (part for part in found.groups() if part is not None)
+    return before + clean(word) + behind
 
 
 def script(doc: str):
@@ -92,7 +102,7 @@ def executable(word: str) -> Path:
     """The path of a program, as a type of argparse's arguments."""
     path = Path(word)
     if not (path.is_file() and os.access(path, os.X_OK)):
-        raise ArgumentTypeError(f"'{word}' is no executable")
+        raise ArgumentTypeError(f"'{clean(word)}' is no executable")
     return path
 
 

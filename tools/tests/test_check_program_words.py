@@ -194,6 +194,19 @@ class WordsTest(unittest.TestCase):
             self.assertEqual((status, out), (2, ""), words)
             self.assertIn("usage:", errors)
 
+    def test_sentences_on_words(self):
+        """A word is escaped, and the sentence on it isn't (the sentences are argparse's and ours)."""
+        for words, said in (
+            (["a", "--at", "tomorrow"], "argument --at: it isn't a date as 2025-01-31 or 2025-01-31T23:59:59"),
+            (["a", "--root"], "argument --root: expected one argument"), ([], "the following arguments are required: PROGRAM"),
+            (["a", "accepted: it's good\x1b"], r"unrecognized arguments: accepted:\20it\27s good\1B"),
+            (["a", "value: 'x'"], r"unrecognized arguments: value:\20\27x\27"),
+            (["--json=a: 'b'", "a"], r'argument --json: ignored explicit argument "a:\20\27b\27"'),
+            (["--json=x", "a"], "argument --json: ignored explicit argument 'x'"),
+        ):
+            _, _, errors = self.said(*words)
+            self.assertEqual(errors.splitlines()[0], f"check_program.py: {said}")
+
     def test_words(self):
         found = check_program.words_of(["p", "--root", "a", "--root=b", "--json", "--stamp-root", "c"])
         self.assertEqual((found.program, found.root, found.json, found.stamp_root, found.tried), ("p", ["a", "b"], True, ["c"], False))
