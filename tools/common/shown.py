@@ -1,4 +1,4 @@
-"""What a file, its certificates or its name say, as text for people: it can't end a string, begin a line or pass for a sentence of ours.
+"""What a file, its certificates or its name say, as text for people: it can't end a string, begin a line or pass for ours.
 
 Printed as they are: printable ASCII but for the apostrophe and the backslash, and letters of the Basic Multilingual
 Plane that have a shape of their own and are written from the left.  Everything else is escaped by its octets in
@@ -11,8 +11,10 @@ MOST_CHARACTERS = 400
 MOST_IN_A_SENTENCE = 64
 # Letters without a shape of their own: fillers of Hangul (Unicode, Default_Ignorable_Code_Point).
 BLANK = set("\u115f\u1160\u3164\uffa0")
-# Letters that look like quotation marks, colons or strokes: modifiers of Latin, Greek and Armenian, and saltillo.
-MARKS = {"\u0374", "\u037a", "\u0559", "\ua788", "\ua789", "\ua78a", "\ua78b", "\ua78c", "\u01c0", "\u01c1", "\u01c2", "\u01c3", *map(chr, range(0x2B0, 0x300))}
+# Modifiers, of which many look like quotation marks or colons, but for those that words of Japanese and Thai need.
+MODIFIER, WRITTEN = "Lm", set("\u3005\u30fc\u0e46")
+# Other letters that look so: saltillo, clicks, a rune, and finals of Canadian syllabics.
+MARKS = {"\ua78b", "\ua78c", "\u01c0", "\u01c1", "\u01c2", "\u01c3", "\u16cc", "\u144a", *map(chr, range(0x141C, 0x142B))}
 FROM_THE_RIGHT = {"R", "AL"}
 
 
@@ -20,8 +22,10 @@ def is_plain(character: str) -> bool:
     """Whether a character is printed as it is."""
     if " " <= character <= "~":
         return character not in "'\\"
-    return (category(character).startswith("L") and character <= "\uffff" and character not in BLANK and character not in MARKS
-            and bidirectional(character) not in FROM_THE_RIGHT)
+    kind = category(character)
+    if not kind.startswith("L") or kind == MODIFIER and character not in WRITTEN:
+        return False
+    return character <= "\uffff" and character not in BLANK | MARKS and bidirectional(character) not in FROM_THE_RIGHT
 
 
 def octets_of(character: str) -> str:

@@ -32,7 +32,8 @@ from program_check.report import Report
 IGNORABLE = "\u3164\u115f\u1160\uffa0\ufe0f\u034f\u180b\u200b\u2060\ufeff\u00ad\U000e0100\U000e0041"
 BLANK = "\u2800\u00a0\u2003\u3000\u1680\u202f"
 FROM_THE_RIGHT = "\u05d0\u0627\u07ca\u0840\ufb1d\ufdf2\u202e\u2067\u200f"
-MARKS = "\u02bc\u2019\u02b9\ua78c\uff07\u0374"
+# Letters and others that look like quotation marks, colons, stops or strokes (Unicode, confusables.txt).
+MARKS = "\u02bc\u2019\u02b9\ua78c\uff07\u0374\u02d0\u02f8\ua789\ua4f8\ua4f9\ua4fa\ua4fd\u144a\u1425\u1426\u1427\u16cc\uff9e\u3033\u2e2f\ua71d\u0559"
 
 
 class TextTest(unittest.TestCase):
@@ -87,7 +88,7 @@ class CharactersTest(unittest.TestCase):
                 self.assertNotIn(one, text.name(TextTest.named(("550403", f"a{one}b"))))
 
     def test_as_they_are(self):
-        letters = "Äé Ωж 日本ー 한국어 ไทย ქართ"
+        letters = "Äé Ωж 日本ー 佐々木 한국어 ไทย บ่อยๆ ქართ ᐃᓄᒃᑎᑐᑦ"
         self.assertEqual(escaped(letters), "".join(one if not unicodedata.category(one).startswith("M") else escaped(one) for one in letters))
         self.assertEqual(escaped("A-Z a-z 0-9 (c) #!?/,;<>=+"), "A-Z a-z 0-9 (c) #!?/,;<>=+")
 
