@@ -1,14 +1,14 @@
 #!/usr/bin/env python3
 """Print the verdict table for the questions of `picky_ask`, by the arithmetic of Python's package `cryptography`.
 
-    picky_ask SIG | python3 tools/verdict_table.py > TABLE
-    picky_ask --chain CERT .. | python3 tools/verdict_table.py > TABLE
-    python3 tools/pool_questions.py CERT .. | python3 tools/verdict_table.py > TABLE
+    python3 tools/verdict_table.py < QUESTIONS > TABLE
 
-Each line read is a question in the form that docs/FORMATS.md gives: the row that a table
-has for it, then key bytes, message and signature in hexadecimal.  The table is of version
-2: it says `malformed` of a signature whose length or form none of the algorithm has,
-`accept` of another that `cryptography` verifies, and `reject` of one that it finds false.
+QUESTIONS are what `picky_ask SIG`, `picky_ask --chain CERT ..` or `tools/pool_questions.py
+CERT ..` prints.  Each line is a question in the form that docs/FORMATS.md gives: the row
+that a table has for it, then key bytes, message and signature in hexadecimal.  The table is
+of version 2: it says `malformed` of a signature whose length or form none of the algorithm
+has, `accept` of another that `cryptography` verifies, and `reject` of one that it finds
+false.
 `malformed` are
 
   - of RSA, a length other than that of the modulus, and a number not below the
@@ -46,7 +46,6 @@ from binascii import unhexlify
 from collections.abc import Iterable, Iterator
 from enum import Enum
 from hashlib import blake2b, sha256
-from io import BytesIO
 from pathlib import Path
 from typing import NamedTuple
 
@@ -194,12 +193,6 @@ def rows_of(lines: Iterable[str | bytes]) -> Judged:
         if one.verdict is not None and verdicts.setdefault(row, one.verdict) != one.verdict:
             raise NoTable(f"question {one.place} has the row of an earlier one and another verdict")
     return Judged([FIRST_LINE, *(f"{found} {row}" for row, found in verdicts.items())], findings)
-
-
-def table_of(text: str) -> tuple[list[str], list[str]]:
-    """The lines of the table for a text of questions, and a line for each that isn't accepted."""
-    judged = rows_of(lines_in(BytesIO(text.encode())))
-    return judged.rows, judged.lacking()
 
 
 def lines_in(stream: Iterable[bytes]) -> Iterator[bytes]:

@@ -25,6 +25,7 @@ import order_bag
 import ordered_program
 import pool_questions
 import signed_program
+import verdict_table
 from common.openssl import openssl
 from gate.check_program_calls import STORED, checked
 from gate.programs_stand_in import StandIn
@@ -193,6 +194,13 @@ class WordsTest(unittest.TestCase):
             status, out, errors = self.said(*words)
             self.assertEqual((status, out), (2, ""), words)
             self.assertIn("usage:", errors)
+
+    def test_usage_is_of_the_script(self):
+        for tool in check_program, order_bag, ordered_program, pool_questions, signed_program, verdict_table:
+            status, out, errors = self.said("--none", main=tool.main)
+            lines = [line.removeprefix("usage: ").strip() for line in errors.splitlines() if "python3" in line]
+            self.assertEqual((status, out, len(lines)), (2, "", 1), tool.__name__)
+            self.assertTrue(lines[0].startswith(f"python3 tools/{tool.__name__}.py "), lines)
 
     def test_sentences_on_words(self):
         """A word is escaped, and the sentence on it isn't (the sentences are argparse's and ours)."""
