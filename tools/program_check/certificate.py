@@ -8,10 +8,11 @@ from common.der import NOT_READ, Element
 from program_check import text
 
 BASIC_CONSTRAINTS, SUBJECT_KEY, AUTHORITY_KEY, EXTENDED_KEY_USAGE = "2.5.29.19", "2.5.29.14", "2.5.29.35", "2.5.29.37"
+ANY_USAGE = "2.5.29.37.0"
 CODE_SIGNING, TIME_STAMPING, LIFETIME_SIGNING = "1.3.6.1.5.5.7.3.3", "1.3.6.1.5.5.7.3.8", "1.3.6.1.4.1.311.10.3.13"
 USAGES = {
     CODE_SIGNING: "code signing", TIME_STAMPING: "time stamping", LIFETIME_SIGNING: "lifetime signing",
-    "1.3.6.1.5.5.7.3.1": "servers", "1.3.6.1.5.5.7.3.2": "clients", "1.3.6.1.5.5.7.3.4": "e-mail", "2.5.29.37.0": "any usage",
+    "1.3.6.1.5.5.7.3.1": "servers", "1.3.6.1.5.5.7.3.2": "clients", "1.3.6.1.5.5.7.3.4": "e-mail", ANY_USAGE: "any usage",
 }
 RSA, EC, ED25519 = "1.2.840.113549.1.1.1", "1.2.840.10045.2.1", "1.3.101.112"
 # The curves that verdict tables have names for, and others that certificates are seen with.
@@ -33,6 +34,14 @@ VERSION, EXTENSIONS = 0xA0, 0xA3
 # RFC 5280 4.1.2.2: a serial number has 20 octets at most.
 MOST_SERIAL = 20
 MOST_EXTENSIONS, MOST_USAGES = 100, 20
+
+
+def has_oid(element: Element, oids) -> bool:
+    """Whether an element is one of these object identifiers; one that is too long to be read is none."""
+    try:
+        return der.oid(element) in oids
+    except NOT_READ:
+        return False
 
 
 class Certificate:
@@ -142,6 +151,16 @@ class Certificate:
             return [der.oid(one) for one in self.extensions[EXTENDED_KEY_USAGE].kids()[:MOST_USAGES]]
         except (KeyError, *NOT_READ):
             return None
+
+    def is_for(self, *purposes: str, unread: bool = False) -> bool:
+        """Whether it names one of these purposes, among however many; `unread` where they are more than are read."""
+        try:
+            held, = self._extensions.kids(1) if self._extensions else (None,)
+            found = (one.kids(3) for one in held.walk()) if held else ()
+            usages = (der.inner(value) for kind, *_, value in found if has_oid(kind, [EXTENDED_KEY_USAGE]))
+            return any(has_oid(one, purposes) for usage in usages for one in usage.walk())
+        except NOT_READ:
+            return unread
 
     # What is shown.
 

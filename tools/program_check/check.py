@@ -202,7 +202,7 @@ class Check:
     def is_for_a_lifetime(subject):
         """Whether the signer's certificate says that no stamp outlives it (1.3.6.1.4.1.311.10.3.13)."""
         certificate = subject.certificate()
-        return certificate is not None and LIFETIME_SIGNING in (certificate.purposes or ())
+        return certificate is not None and certificate.is_for(LIFETIME_SIGNING, unread=True)
 
     # The questions to the programs.
 

@@ -12,13 +12,18 @@ from unittest.mock import patch
 
 sys.path.insert(0, str(Path(__file__).resolve().parents[1]))
 
+from cryptography import x509
+from cryptography.x509.oid import ObjectIdentifier
+
 import signed_program
+from common import der
 from common.calls import TimedOut
 from gate.changed_programs import UNSIGNED, with_attribute
 from gate.check_program_calls import checked
 from gate.made_programs import CODE_SIGNING, SERVERS, TIME_STAMPING, Holder, chain, rsa_key, signed
 from gate.made_stamps import authority, countersignature, token
 from program_check import stamps
+from program_check.certificate import LIFETIME_SIGNING as LIFETIME, Certificate, has_oid
 from program_check.roots import Root, Roots
 from program_check.signature import Signature
 
@@ -68,6 +73,23 @@ class StampsTest(unittest.TestCase):
         """Who makes stamps has a certificate for that, and for nothing else."""
         for purposes in [CODE_SIGNING], [SERVERS], [TIME_STAMPING, CODE_SIGNING]:
             self.assert_bad(self.both(authority(self.top, purposes=purposes)), "purpose")
+
+    def test_lifetime_signing(self):
+        """No stamp is used in place of now, wherever the signer's certificate says so (1.3.6.1.4.1.311.10.3.13)."""
+        many = [f"1.2.3.{number}" for number in range(10_001)]
+        others = [(x509.UnrecognizedExtension(ObjectIdentifier(one), b"\5\0"), False) for one in many[:101]]
+        for purposes, extensions in (
+            (many[:20] + [LIFETIME], ()), (many + [LIFETIME], ()), ([LIFETIME], others),
+        ):
+            # Extensions that are added come last, so the usages are one of them.
+            usages = x509.ExtendedKeyUsage([ObjectIdentifier(one) for one in [CODE_SIGNING, *purposes]])
+            self.signer = Holder("Signer", self.signer.key, self.root, ca=False, extensions=[*extensions, (usages, False)])
+            report = self.report(token, authority(self.top))
+            self.assertEqual((report.verdict, report.stamps[0]["verified"], report.stamps[0]["used"]), ("refused", True, False), len(purposes))
+        usages = x509.ExtendedKeyUsage([ObjectIdentifier(one) for one in [*many[:30], CODE_SIGNING]])
+        self.assertTrue(Certificate(Holder("One", self.signer.key, extensions=[(usages, False)]).der).is_for(CODE_SIGNING))
+        # An OID that is too long to be read ends no reading.
+        self.assertFalse(has_oid(der.whole(der.wrapped(der.OID, b"\x2a" + b"\1" * 70)), [LIFETIME]))
 
     def test_another_root(self):
         self.assert_bad(self.both(authority(self.top), trusted=self.root), "unable to get local issuer certificate")
