@@ -98,7 +98,7 @@ class Progress:
 
     def __call__(self, words):
         if monotonic() - self.began > PATIENCE:
-            print(f"check_program.py: {words} ..", file=sys.stderr, flush=True)
+            command.say(f"check_program.py: {words} ..")
 
 
 def question_of(words):
@@ -129,7 +129,7 @@ def write(report, as_json):
     elif report.verdict == "not checked":
         # What can't be read is named by the sentence itself.
         named = "" if report.status == CANT_READ else f"{report.file}: "
-        print(text.visible(f"check_program.py: {named}{report.sentence}"), file=sys.stderr)
+        command.say(text.visible(f"check_program.py: {named}{report.sentence}"))
     else:
         print("\n".join(report.lines()))
     sys.stdout.flush()
@@ -139,14 +139,14 @@ def write(report, as_json):
 def main(arguments):
     words = words_of(arguments)
     if words.tried:
-        print(f"check_program.py: {TRIED} ..", file=sys.stderr, flush=True)
+        command.say(f"check_program.py: {TRIED} ..")
     report = reported(words)
     try:
         write(report, words.json)
     except BrokenPipeError:
         raise
     except OSError as refusal:
-        print(f"check_program.py: {command.sentence(refusal)}", file=sys.stderr)
+        command.say(f"check_program.py: {command.sentence(refusal)}")
         return CANT_WRITE
     return report.status
 

@@ -13,7 +13,6 @@ No signature is over the order of certificates (RFC 5652 5.4), nor over unsigned
 attributes, so each is as good as before, and a table for SIG is one for OUT.
 """
 
-import sys
 from pathlib import Path
 
 from common import command, der, signed_data
@@ -118,10 +117,10 @@ def main(arguments):
     try:
         Path(words.out).write_bytes(with_ordered_bag(command.read_file(words.sig)))
     except (OSError, command.Refusal) as refusal:
-        print(f"order_bag.py: {command.sentence(refusal)}", file=sys.stderr)
+        command.say(f"order_bag.py: {command.sentence(refusal)}")
         return 1
     except NotASignatureFile as refusal:
-        print(f"order_bag.py: {clean(words.sig)}: {refusal}", file=sys.stderr)
+        command.say(f"order_bag.py: {clean(words.sig)}: {refusal}")
         return 1
     return 0
 

@@ -10,7 +10,6 @@ The digest of a program is over no octet of its certificate table, and the entry
 its length, so its signatures are as good as before; a table for SIG is one for OUT.
 """
 
-import sys
 from pathlib import Path
 
 from common import command
@@ -38,10 +37,10 @@ def main(arguments):
         Path(words.out).write_bytes(with_entry(program, entry))
         Path(words.sig).write_bytes(entry)
     except (OSError, command.Refusal) as refusal:
-        print(f"ordered_program.py: {command.sentence(refusal)}", file=sys.stderr)
+        command.say(f"ordered_program.py: {command.sentence(refusal)}")
         return 1
     except (NotSigned, NotASignatureFile) as refusal:
-        print(f"ordered_program.py: {clean(words.program)}: {refusal}", file=sys.stderr)
+        command.say(f"ordered_program.py: {clean(words.program)}: {refusal}")
         return 1
     return 0
 

@@ -12,7 +12,6 @@ A file that is no certificate has a line on standard error, and the status is 1;
 where the words are wrong, or the program is missing or gives no answer.
 """
 
-import sys
 
 from common import command
 from common.der import NOT_READ
@@ -68,7 +67,7 @@ def main(arguments):
         why, status = command.sentence(refusal), 1
     else:
         return 0
-    print(f"pool_questions.py: {why}", file=sys.stderr)
+    command.say(f"pool_questions.py: {why}")
     return status
 
 

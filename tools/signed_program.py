@@ -13,7 +13,6 @@ program (SpcIndirectDataContent, `messageDigest`), or DIGEST, a name of Python's
 hashlib such as `sha256`, where it is given.
 """
 
-import sys
 from hashlib import new
 from pathlib import Path
 from struct import error, unpack_from
@@ -104,13 +103,13 @@ def main(arguments):
         digest = image_digest(program, words.digest or named_digest(entry))
         Path(words.sig).write_bytes(entry)
     except (OSError, command.Refusal) as refusal:
-        print(f"signed_program.py: {command.sentence(refusal)}", file=sys.stderr)
+        command.say(f"signed_program.py: {command.sentence(refusal)}")
         return 1
     except NotSigned as refusal:
-        print(f"signed_program.py: {clean(words.program)}: {refusal}", file=sys.stderr)
+        command.say(f"signed_program.py: {clean(words.program)}: {refusal}")
         return 1
     except ValueError as refusal:
-        print(f"signed_program.py: {clean(words.program)}: {clean(refusal)}", file=sys.stderr)
+        command.say(f"signed_program.py: {clean(words.program)}: {clean(refusal)}")
         return 1
     print(digest)
     return 0

@@ -211,10 +211,11 @@ def main(arguments):
     try:
         judged = rows_of(lines_in(sys.stdin.buffer))
     except NoTable as why:
-        print(f"verdict_table.py: {command.sentence(why)}", file=sys.stderr)
+        command.say(f"verdict_table.py: {command.sentence(why)}")
         return 1
     print(*judged.rows, sep="\n")
-    sys.stderr.writelines(f"verdict_table.py: {line}\n" for line in judged.lacking())
+    for line in judged.lacking():
+        command.say(f"verdict_table.py: {line}")
     return 0
 
 

@@ -72,7 +72,7 @@ def script(doc: str):
             try:
                 return main(words)
             except Wrong as refusal:
-                print(f"{Path(sys.modules[main.__module__].__file__).name}: {refusal}", file=sys.stderr)
+                say(f"{Path(sys.modules[main.__module__].__file__).name}: {refusal}")
                 return usage(doc)
         return called
     return decorated
@@ -90,7 +90,7 @@ class Once(argparse.Action):
 def usage(doc: str) -> int:
     """Print how a script is called, by the indented lines of its docstring, to standard error; its status."""
     lines = [line.strip() for line in doc.splitlines() if line.startswith("    python3 ")]
-    print("usage:", "\n       ".join(lines), file=sys.stderr)
+    say("usage: " + "\n       ".join(lines))
     return CANT
 
 
@@ -123,6 +123,14 @@ def read_file(file, most: int | None = None) -> bytes:
 
 
 # What is said.
+
+def say(line: str):
+    """Prints to standard error; where that can't be written the status alone says it."""
+    try:
+        print(line, file=sys.stderr, flush=True)
+    except OSError:
+        silence("stderr")
+
 
 def sentence(error: BaseException) -> str:
     """What an error says, on one line."""
@@ -192,7 +200,7 @@ def run(main, doc: str, cant_write: int = CANT):
 def ended(main, doc: str, script: str, words: list, cant_write: int) -> int:
     """The status of a script, whose output is written."""
     if sys.stdout is None:
-        print(f"{script}: standard output is closed", file=sys.stderr)
+        say(f"{script}: standard output is closed")
         return cant_write
     # A name may have characters that the output's encoding hasn't.
     sys.stdout.reconfigure(errors="backslashreplace")
@@ -205,9 +213,9 @@ def ended(main, doc: str, script: str, words: list, cant_write: int) -> int:
         os.dup2(os.open(os.devnull, os.O_WRONLY), sys.stdout.fileno())
         status = cant_write
     except (Refusal, OSError, CalledProcessError, UnicodeDecodeError) as error:
-        print(f"{script}: {sentence(error)}", file=sys.stderr)
+        say(f"{script}: {sentence(error)}")
         status = CANT
     except MemoryError:
-        print(f"{script}: there isn't enough memory", file=sys.stderr)
+        say(f"{script}: there isn't enough memory")
         status = CANT
     return status

@@ -315,6 +315,23 @@ class EndTest(unittest.TestCase):
         with TemporaryDirectory() as folder, open("/dev/full", "wb") as full:
             self.assertEqual(self.ended(folder, *self.files(folder), stdout=full)[0], 5)
 
+    @unittest.skipUnless(Path("/dev/full").exists(), "there is no /dev/full")
+    def test_full_errors(self):
+        """Where standard error can't be written the status is the same."""
+        begin, closed = os.pipe()
+        os.close(begin)
+        with TemporaryDirectory() as folder, open("/dev/full", "wb") as full:
+            _, root, _ = self.files(folder)
+            for errors in full, closed:
+                for tool, words, status in (
+                    ("check_program.py", ["--root", root, "/none/file"], 4), ("check_program.py", ["a", "b"], 2), ("check_program.py", [], 2),
+                    ("verdict_table.py", ["a"], 2), ("signed_program.py", ["a"], 2), ("signed_program.py", ["/none/file", "/none/x"], 1),
+                    ("order_bag.py", ["/none/file", "/none/x"], 1),
+                ):
+                    done = subprocess.run([sys.executable, TOOLS / tool, *words], stdout=subprocess.PIPE, stderr=errors, timeout=100)
+                    self.assertEqual((done.returncode, done.stdout), (status, b""), (tool, words))
+        os.close(closed)
+
     def test_no_regular_file(self):
         """A FIFO and a device are refused at once, as PROGRAM and as a root."""
         with TemporaryDirectory() as folder:
