@@ -1,7 +1,9 @@
 """A certificate as it is shown (RFC 5280 4.1)."""
 
+from contextlib import suppress
 from functools import cached_property
 from hashlib import sha1, sha256
+from itertools import islice
 
 from common import der
 from common.der import NOT_READ, Element
@@ -42,6 +44,14 @@ def has_oid(element: Element, oids) -> bool:
         return der.oid(element) in oids
     except NOT_READ:
         return False
+
+
+def shown_oid(element: Element) -> str:
+    """An object identifier as it is shown."""
+    try:
+        return der.oid(element)
+    except NOT_READ:
+        return "an identifier that isn't read here"
 
 
 class Certificate:
@@ -115,8 +125,10 @@ class Certificate:
         try:
             held, = self._extensions.kids(1) if self._extensions else ()
             for one in held.walk(MOST_EXTENSIONS):
-                kind, *_, value = one.kids(3)
-                found.setdefault(der.oid(kind), der.inner(value))
+                # One that isn't read hides none behind it.
+                with suppress(*NOT_READ):
+                    kind, *_, value = one.kids(3)
+                    found.setdefault(der.oid(kind), der.inner(value))
         except NOT_READ:
             pass
         return found
@@ -148,7 +160,7 @@ class Certificate:
     def purposes(self) -> list | None:
         """The OIDs of the extended key usage, as many as are shown; None where there is none or it isn't read."""
         try:
-            return [der.oid(one) for one in self.extensions[EXTENDED_KEY_USAGE].kids()[:MOST_USAGES]]
+            return [shown_oid(one) for one in islice(self.extensions[EXTENDED_KEY_USAGE].walk(), MOST_USAGES)]
         except (KeyError, *NOT_READ):
             return None
 

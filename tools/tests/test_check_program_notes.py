@@ -19,8 +19,10 @@ from cryptography import x509
 from cryptography.x509.oid import ObjectIdentifier
 
 import signed_program
+from common.calls import TimedOut
 from common.der import NotRead
-from gate.check_program_calls import STORED, changed, checked
+from common.openssl import OpensslError
+from gate.check_program_calls import STORED, changed, checked, numbered
 from gate.made_programs import CODE_SIGNING, SERVERS, Holder, chain, entry, rsa_key, signed, with_table
 from gate.programs_stand_in import StandIn
 from interop.signature_making import portable_executable
@@ -153,10 +155,14 @@ class WeakTest(unittest.TestCase):
         """A year that no moment of openssl's has, and no openssl: a report all the same."""
         root = Holder("Root", rsa_key())
         line = [Certificate(root.der)]
-        self.assertEqual(opinion.note(line, "0000-01-01T00:00:00"), "`openssl verify` isn't asked about a date in the year 0000")
+        none = "`openssl verify` gives no second opinion on this path"
+        self.assertEqual(opinion.note(line, "0000-01-01T00:00:00"), none)
         self.assertIsNone(opinion.note(line, "2025-01-01T00:00:00"))
         with patch.dict(os.environ, {"PATH": "/none"}):
-            self.assertEqual(opinion.note(line, "2025-01-01T00:00:00"), "`openssl verify` refuses this path: openssl isn't there")
+            self.assertEqual(opinion.note(line, "2025-01-01T00:00:00"), none)
+        for error in OpensslError("openssl verify /tmp/x"), TimedOut("openssl didn't end within 120 seconds"):
+            with patch.object(opinion, "openssl", side_effect=error):
+                self.assertEqual(opinion.note(line, "2025-01-01T00:00:00"), none)
 
 
 class UnsignedTest(unittest.TestCase):
@@ -257,6 +263,25 @@ class UnsignedTest(unittest.TestCase):
         self.assertEqual((report.verdict, report.signer), ("refused", None))
         self.assertNotIn("forged", report.sentence + report.next)
 
+    def test_many_certificates(self):
+        """A hundred are listed, and it is said that there are more."""
+        for many in 100, 101:
+            more = [write(numbered(read_exact(self.signer.der), b"\1" + number.to_bytes(2, "big"))) for number in range(1, many)]
+            report = self.report(signed(self.signer, [self.signer.der, *more]))
+            self.assertEqual((report.verdict, len(report.certificates)), ("accepted", 100))
+            self.assertEqual([one for one in report.notes if "listed" in one], [f"the signature has {many} certificates, of which the first 100 are listed"] * (many > 100))
+
+    def test_usages(self):
+        """Those behind an extension, or a usage, whose OID is too long to be read are there."""
+        long = Primitive(6, b"\x2a" + b"\1" * 70)
+        usages = write(Constructed(0x30, (long, Primitive(6, bytes.fromhex("2b06010505070303")))))
+        first, second = (Constructed(0x30, (kind, Primitive(4, value))) for kind, value in ((long, b"\5\0"), (Primitive(6, b"\x55\x1d\x25"), usages)))
+        tbs, *rest = read_exact(self.root.der).kids
+        tbs = tbs._replace(kids=(*tbs.kids[:-1], Constructed(0xA3, (Constructed(0x30, (first, second)),))))
+        certificate = Certificate(write(Constructed(0x30, (tbs, *rest))))
+        self.assertEqual(certificate.usages(), ["an identifier that isn't read here", "code signing"])
+        self.assertTrue(certificate.is_for(CODE_SIGNING))
+
     def test_serial_numbers(self):
         """Twenty octets at most (RFC 5280 4.1.2.2), of a longer one how many more."""
         long = Certificate(Holder("One", rsa_key(), serial=int.from_bytes(b"\x7f" * 20, "big")).der)
@@ -300,6 +325,11 @@ class RowsTest(unittest.TestCase):
             report = self.report(self.STUBS, octets.replace(signature, changed(signature, 7)))
             self.assertEqual((report.verdict, report.root), ("refused", None))
             self.assertIn("the programs disagree: picky_anchor takes", report.sentence)
+
+    def test_a_path_of_other_names(self):
+        report = self.report(self.STUBS | {"picky_anchor": (0, "anchored pool=0 anchor=0\n")}, STORED["three"].octets)
+        self.assertEqual((report.verdict, report.root, report.path), ("refused", None, []))
+        self.assertIn("the names of these certificates don't lead from one to the next", report.sentence)
 
     def test_nothing_is_asked(self):
         """A program that lists no question leaves the table empty."""
