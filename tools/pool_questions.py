@@ -12,14 +12,15 @@ A file that is no certificate has a line on standard error, and the status is 1;
 where the words are wrong, or the program is missing or gives no answer.
 """
 
-
 from common import command
 from common.der import NOT_READ
 from common.shown import clean
 from program_check.certificate import Certificate
 from program_check.programs import VARIABLE, Disagreement, NotChecked, NotThere, Programs
 
-NOT_BUILT = f"the program picky_ask isn't built: `rt run` in crates/picky_ask builds it; or name the folder that has it in {VARIABLE}"
+NOT_BUILT = (
+    "the program picky_ask isn't built: `rt run` in crates/picky_ask builds it; or name the folder that has it in "
+    f"{VARIABLE}")
 
 
 class NoCertificate(command.Refusal):
@@ -46,7 +47,8 @@ def questions(programs, files):
             if may_issue(held[parent], held[child]):
                 answer = programs.run("picky_ask", ["--chain", child, parent], "picky_ask")
                 if answer.accepted() is None:
-                    raise NoCertificate(f"{clean(child)} or {clean(parent)} is no certificate: {answer.line()}")
+                    either = " or ".join(dict.fromkeys(map(clean, (child, parent))))
+                    raise NoCertificate(f"{either} is no certificate: {answer.line()}")
                 lines |= dict.fromkeys(answer.output.splitlines())
     return lines
 

@@ -263,6 +263,21 @@ class PoolTest(unittest.TestCase):
             self.assertNotIn(option, errors.getvalue())
         self.assertIn("PICKY_PROGRAMS", errors.getvalue())
 
+    def test_a_file_that_is_no_certificate(self):
+        """It is named once where it is asked about with itself, and each where two are."""
+        with TemporaryDirectory() as folder:
+            one, other = Path(folder, "one"), Path(folder, "other")
+            one.write_bytes(b"none")
+            other.write_bytes(b"none")
+            for files, said in ([one], f"{one} is no certificate"), ([one, other], f"{one} or {other} is no certificate"):
+                programs = Stub("picky_ask", 1, "refused Asn1Deserialization\n")
+                if len(files) == 2:
+                    run, asked = programs.run, iter([Answer("picky_ask", "picky_ask", 0, "")])
+                    programs.run = lambda *words: next(asked, None) or run(*words)
+                with self.assertRaises(pool_questions.NoCertificate) as refusal:
+                    list(pool_questions.questions(programs, files))
+                self.assertEqual(str(refusal.exception).partition(":")[0], said)
+
 
 if __name__ == "__main__":
     unittest.main()
