@@ -4,7 +4,7 @@ import os
 import signal
 import subprocess
 
-from common.command import Refusal
+from common.command import Refusal, signals_wait
 
 SECONDS = 60
 
@@ -22,23 +22,27 @@ def called(words, given=None, seconds=SECONDS, **options):
     """
     words = [os.fspath(word) if isinstance(word, os.PathLike) else str(word) for word in words]
     stdin = subprocess.DEVNULL if given is None else subprocess.PIPE
-    with subprocess.Popen(
-        words, stdin=stdin, stdout=subprocess.PIPE, stderr=subprocess.PIPE, start_new_session=True, **options
-    ) as process:
-        try:
-            out, errors = process.communicate(given, timeout=seconds)
-        except subprocess.TimeoutExpired as late:
+    process = None
+    try:
+        # A signal while it is started would leave it running, since nobody had its number yet.
+        with signals_wait():
+            process = subprocess.Popen(
+                words, stdin=stdin, stdout=subprocess.PIPE, stderr=subprocess.PIPE, start_new_session=True, **options)
+        out, errors = process.communicate(given, timeout=seconds)
+    except subprocess.TimeoutExpired as late:
+        ended(process)
+        raise TimedOut(f"{os.path.basename(words[0])} didn't end within {seconds} seconds") from late
+    except BaseException:
+        if process is not None:
             ended(process)
-            raise TimedOut(f"{os.path.basename(words[0])} didn't end within {seconds} seconds") from late
-        except BaseException:
-            ended(process)
-            raise
+        raise
     return subprocess.CompletedProcess(words, process.returncode, out, errors)
 
 
 def ended(process):
-    """Ends a program and what it started."""
-    try:
-        os.killpg(process.pid, signal.SIGKILL)
-    except ProcessLookupError:
-        process.kill()
+    """Ends a program and what it started, and closes what it wrote to."""
+    with process:
+        try:
+            os.killpg(process.pid, signal.SIGKILL)
+        except ProcessLookupError:
+            process.kill()

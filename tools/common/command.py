@@ -6,7 +6,9 @@ import re
 import signal
 import stat
 import sys
+import threading
 from argparse import ArgumentTypeError
+from contextlib import contextmanager
 from functools import wraps
 from pathlib import Path
 from subprocess import CalledProcessError
@@ -139,6 +141,22 @@ def stop(number, frame):
     for one in ENDING:
         signal.signal(one, signal.SIG_IGN)
     raise Stopped(number)
+
+
+@contextmanager
+def signals_wait():
+    """A signal that comes meanwhile ends the script behind this; where `run` hasn't been called nothing changes."""
+    came, threaded = [], threading.current_thread() is not threading.main_thread()
+    held = [] if threaded else [one for one in ENDING if signal.getsignal(one) is stop]
+    for one in held:
+        signal.signal(one, lambda number, frame: came.append(number))
+    try:
+        yield
+    finally:
+        for one in held:
+            signal.signal(one, stop)
+        if came:
+            stop(came[0], None)
 
 
 def end_by(number: int):

@@ -2,6 +2,7 @@
 
 import signed_program
 from program_check import notes, text
+from program_check.image import Image
 from program_check.signature import further_entries
 
 # Lines on signatures that aren't looked at, and certificates that are listed.
@@ -27,6 +28,9 @@ def describe(report, subject, alone):
     report.stated_time = signature.stated_time()
     report.notes += notes.weaknesses(stated[0] if stated else None, certificate)
     report.notes += [notes.UNSIGNED.format(text.counted(many, "octet"), where) for many, where in unsigned(subject, alone)]
+    image = None if alone else Image.of(subject.octets)
+    if image is not None and image.is_rounded_into_the_table():
+        report.notes.append(notes.ROUNDED.format(f"{image.layout.step():,}"))
     describe_others(report, subject, alone)
 
 

@@ -348,6 +348,23 @@ class EndTest(unittest.TestCase):
                 self.assertEqual((process.returncode, list(Path(folder, "tmp").iterdir())), (-number, []))
                 self.assert_ended(int(waits.read_text()))
 
+    def test_a_signal_while_a_program_starts(self):
+        """One that comes when it has begun, and Popen hasn't returned."""
+        script = (
+            "import os, signal, subprocess\n"
+            "from common import calls, command\n"
+            "class Slow(subprocess.Popen):\n"
+            "    def __init__(self, *words, **how):\n"
+            "        super().__init__(*words, **how)\n"
+            "        print(self.pid, flush=True)\n"
+            "        os.kill(os.getpid(), signal.{})\n"
+            "subprocess.Popen = Slow\n"
+            "command.run(lambda words: calls.called(['sleep', '1000']).returncode, '')\n")
+        for name in "SIGTERM", "SIGINT", "SIGHUP":
+            done = subprocess.run([sys.executable, "-c", script.format(name)], env=os.environ | {"PYTHONPATH": str(TOOLS)}, capture_output=True, timeout=100)
+            self.assertEqual((done.returncode, done.stderr), (-getattr(signal, name), b""))
+            self.assert_ended(int(done.stdout))
+
     def assert_ended(self, pid):
         for _ in range(100):
             status = Path(f"/proc/{pid}/status")
