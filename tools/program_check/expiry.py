@@ -7,6 +7,10 @@ NOT_TRUSTED = "unable to get local issuer certificate", "self-signed certificate
 
 def hint(report, for_a_lifetime):
     """What to do about it, by the date and the stamps of a report."""
+    return f"{advice(report, for_a_lifetime)} (sbverify looks at no dates)"
+
+
+def advice(report, for_a_lifetime):
     source, stamps = report.date["source"], report.stamps
     if source.startswith("as given"):
         return "the date is the one of --at, beside which no stamp counts: leave it out to have the time of a good stamp, or give a date at which it was valid"
