@@ -1,4 +1,4 @@
-"""How the scripts are called: their words and `--help`, the files that they read, what is printed of bad input, and how they end."""
+"""How the scripts are called: their words, the files that they read, what is printed of bad input, and how they end."""
 
 import argparse
 import os
@@ -63,7 +63,7 @@ def escaped_word(found: re.Match) -> str:
 
 
 def script(doc: str):
-    """Of a function of the words that returns a status: words that are wrong are said with the usage, and help is printed."""
+    """Of a function of the words that returns a status: wrong words are said with the usage, and help is printed."""
     def decorated(main):
         @wraps(main)
         def called(words: list) -> int:

@@ -1,4 +1,4 @@
-"""What a file, its certificates or its name say, as text for people: it can't end a string, begin a line or pass for ours.
+"""What a file, its certificates or its name say, as text: it can't end a string, begin a line or pass for ours.
 
 Printed as they are: printable ASCII but for the apostrophe and the backslash, and letters of the Basic Multilingual
 Plane that have a shape of their own and are written from the left.  Everything else is escaped by its octets in
@@ -14,7 +14,7 @@ BLANK = set("\u115f\u1160\u3164\uffa0")
 # Modifiers, of which many look like quotation marks or colons, but for those that words of Japanese and Thai need.
 MODIFIER, WRITTEN = "Lm", set("\u3005\u30fc\u0e46")
 # Other letters that look so: saltillo, clicks, a rune, and finals of Canadian syllabics.
-MARKS = {"\ua78b", "\ua78c", "\u01c0", "\u01c1", "\u01c2", "\u01c3", "\u16cc", "\u144a", *map(chr, range(0x141C, 0x142B))}
+MARKS = {*"\ua78b\ua78c\u01c0\u01c1\u01c2\u01c3\u16cc\u144a", *map(chr, range(0x141C, 0x142B))}
 FROM_THE_RIGHT = {"R", "AL"}
 
 
@@ -36,7 +36,7 @@ def octets_of(character: str) -> str:
 
 
 def escaped(text: str, special: object = None) -> str:
-    """A text of any length; `special` says of a place whether the character there has a stroke in front, as in names."""
+    """A text of any length; `special` says of a place whether its character has a stroke in front, as in names."""
     found, before = [], ""
     for at, one in enumerate(text):
         if special is not None and special(at, one):

@@ -14,7 +14,8 @@ ANY_USAGE = "2.5.29.37.0"
 CODE_SIGNING, TIME_STAMPING, LIFETIME_SIGNING = "1.3.6.1.5.5.7.3.3", "1.3.6.1.5.5.7.3.8", "1.3.6.1.4.1.311.10.3.13"
 USAGES = {
     CODE_SIGNING: "code signing", TIME_STAMPING: "time stamping", LIFETIME_SIGNING: "lifetime signing",
-    "1.3.6.1.5.5.7.3.1": "servers", "1.3.6.1.5.5.7.3.2": "clients", "1.3.6.1.5.5.7.3.4": "e-mail", ANY_USAGE: "any usage",
+    "1.3.6.1.5.5.7.3.1": "servers", "1.3.6.1.5.5.7.3.2": "clients", "1.3.6.1.5.5.7.3.4": "e-mail",
+    ANY_USAGE: "any usage",
 }
 RSA, EC, ED25519 = "1.2.840.113549.1.1.1", "1.2.840.10045.2.1", "1.3.101.112"
 # The curves that verdict tables have names for, and others that certificates are seen with.

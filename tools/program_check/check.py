@@ -338,7 +338,9 @@ class Check:
     def refuse_signature(self, subject, name, asked):
         """The signature is refused: why."""
         certificate = subject.certificate()
-        words = {"date": text.shown_moment(asked.date)} if certificate is None else explain.words_of([certificate], 0, asked.date)
+        words = {"date": text.shown_moment(asked.date)}
+        if certificate is not None:
+            words = explain.words_of([certificate], 0, asked.date)
         sentence, then = reasons.of_signature(name, subject, asked.table, words)
         if name == reasons.DIGEST and not self.alone:
             sentence, then = self.of_the_digest(subject) or (sentence, then)

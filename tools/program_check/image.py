@@ -1,8 +1,9 @@
-"""The headers and sections of a program of Windows, as far as they lie where nobody signed (PE Format, "Section Table").
+"""The headers and sections of a program of Windows that lie where nobody signed (PE Format, "Section Table").
 
-A loader takes the headers and the sections out of a file.  What it takes from the certificate table, or from octets that
-a digest leaves out, nobody signed.  Loaders of EFI copy what the section table says.  Windows rounds the end of a section
-up to FileAlignment; a program whose SectionAlignment is below a page it maps as the file is, up to SizeOfImage.
+A loader takes the headers and the sections out of a file.  What it takes from the certificate table, or from
+octets that a digest leaves out, nobody signed.  Loaders of EFI copy what the section table says.  Windows rounds
+the end of a section up to FileAlignment; a program whose SectionAlignment is below a page it maps as the file is,
+up to SizeOfImage.
 """
 
 from hashlib import new
@@ -112,7 +113,7 @@ class Image(NamedTuple):
 
 
 def digest_by_sections(program: bytes, image: Image, digest: str) -> str:
-    """The digest as Microsoft's text has it: headers, sections by their places, and as many octets at the end as are left.
+    """The digest as Microsoft's text has it: headers, sections by their places, and what is left at the end.
 
     Where sections have a gap it is another one than that of all octets: the gap isn't digested, and octets at the end
     are digested twice.
