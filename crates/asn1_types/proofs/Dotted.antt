@@ -185,15 +185,6 @@ printing_ends text written rest printing begins = by_left printing.left printing
     by_left [] all spelled whole = whole ∙ append-nil written
     by_left (x ∷ xs) all spelled whole = absurd (begins x (flat_map subidentifier xs) all.0 spelled)
 
--- contents octets begin with a subidentifier
-pub identifier_begins : (contents : List ℕ) → IsIdentifier contents → BeginsWithNoSubidentifier contents → ⊥
-identifier_begins contents identifier begins = by_arcs identifier.arcs identifier.are_arcs identifier.spelled
-  where
-    by_arcs : (arcs : List ℕ) → IsArcs arcs → contents ≡ contents_of arcs → ⊥
-    by_arcs [] h e = h
-    by_arcs (x ∷ []) h e = h
-    by_arcs (x ∷ y ∷ xs) h e = begins (40 * x + y) (flat_map subidentifier xs) h.0.bounded e
-
 -- ---- results of the parsers
 
 -- a refusal of a larger form is one of a smaller

@@ -104,12 +104,6 @@ module _ (f : SignedDataElements) (given : Option (List ℕ)) where
   pub form_in_shape : (e : AuthenticodeError) → IsFirstBroken (form_rules f) e → IsFirstBroken (shape_rules f given) e
   form_in_shape e broken = broken_before (form_rules f) (LacksHash given ∷ []) e broken
 
-  pub hash_is_missing : (algorithm : DerElement) (d : IndirectData) (g : SignerElements) → HasForm f algorithm d g → given ≡ None → IsFirstBroken (shape_rules f given) errors.MissingExpectedFileHash
-  hash_is_missing algorithm d g form none = broken_behind (form_rules f) (LacksHash given ∷ []) errors.MissingExpectedFileHash (form_met f algorithm d g form) (inl (none, refl))
-
-  pub shape_unbroken : (algorithm : DerElement) (d : IndirectData) (g : SignerElements) (hash : List ℕ) (e : AuthenticodeError) → HasForm f algorithm d g → given ≡ Some hash → IsFirstBroken (shape_rules f given) e → ⊥
-  shape_unbroken algorithm d g hash e form is broken = none_broken (shape_rules f given) (shape_met algorithm d g hash form is) e broken
-
   -- the refusal by a broken rule is the one that it reports
   pub refused_so : {A : Type 0} (r : Result A AuthenticodeError) (e : AuthenticodeError) → r ≡ Err e → IsFirstBroken (shape_rules f given) e → (x : AuthenticodeError) → IsFirstBroken (shape_rules f given) x → r ≡ Err x
   refused_so r e is broken x other = is ∙ ap Err (one_broken (shape_rules f given) shape_returned e x broken other)

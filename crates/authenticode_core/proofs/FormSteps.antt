@@ -36,10 +36,6 @@ pub members_are : (element : DerElement) (kids : List DerElement) → kids_of el
 members_are (Primitive tag content) kids e = absurd cc
 members_are (Constructed tag elements) kids e = cc
 
-pub no_members : (element : DerElement) → kids_of element ≡ None → members_of (Some element) ≡ []
-no_members (Primitive tag content) e = refl
-no_members (Constructed tag elements) e = absurd cc
-
 -- ---- the signer
 
 pub signer_lies : (element : DerElement) (view : SignerView) (is : IsSignerView element view) → signer_elements_at view ≡ signer_elements is.value
@@ -60,11 +56,6 @@ pub no_other_signer : (f : SignedDataElements) (element only : DerElement) → A
 no_other_signer f element only spelled e one none =
     let value = signer_is_spelled f only [] spelled (signers_are f element e ∙ one) in
     none value.0 value.1
-
-pub other_signers : (f : SignedDataElements) (element : DerElement) (count : ℕ) → element ≡ f.signers_infos → length (members_of (Some element)) ≢ 1 → count ≡ length (members_of (Some element)) → HasOtherSigners f (errors.MultipleSignerInfo count)
-other_signers f element count e some returned =
-    let same = ap length (signers_are f element e) in
-    ((λ one. some (sym same ∙ one)), ap errors.MultipleSignerInfo (returned ∙ sym same))
 
 -- ---- the digest algorithm
 
@@ -115,20 +106,6 @@ no_other_content f content_type other element found spelled p q named none =
 -- ---- all of them, in order
 
 module _ (f : SignedDataElements) where
-  pub broken_1 : (e : AuthenticodeError) → IsOfOtherVersion f e → IsFirstBroken (form_rules f) e
-  broken_1 e p = inl p
-
-  pub broken_2 : (e : AuthenticodeError) → HasVersion f 1 → HasOtherSigners f e → IsFirstBroken (form_rules f) e
-  broken_2 e version p = inr (version_met f version, inl p)
-
-  pub broken_3 : (e : AuthenticodeError) → HasVersion f 1 → length (signers_of f) ≡ 1 → HasOtherAlgorithms f e → IsFirstBroken (form_rules f) e
-  broken_3 e version one p = inr (version_met f version, inr (signers_met f one, inl p))
-
-  pub broken_4 : (e : AuthenticodeError) → HasVersion f 1 → length (signers_of f) ≡ 1 → length (digest_algorithms_of f) ≡ 1 → IsFirstBroken (LacksContent f ∷ HasOtherContent f ∷ []) e → IsFirstBroken (form_rules f) e
-  broken_4 e version one alone (inl p) = inr (version_met f version, inr (signers_met f one, inr (algorithms_met f alone, inl p)))
-  broken_4 e version one alone (inr (met, inl p)) = inr (version_met f version, inr (signers_met f one, inr (algorithms_met f alone, inr (met, inl p))))
-  broken_4 e version one alone (inr (met, inr p)) = absurd p.1
-
   module _ (version : HasVersion f 1) (one : length (signers_of f) ≡ 1) (algorithm : DerElement) (alone : digest_algorithms_of f ≡ algorithm ∷ []) (d : IndirectData) (content : Content) (is : IsIndirectContent f d content) where
     differs : (octets : List ℕ) → octets ≡ encoding content.algorithm.is.0 → (octets ≡ encoding algorithm → ⊥) → IsSameElement d.algorithm algorithm → ⊥
     differs octets e different same = different (e ∙ ap encoding is.algorithm ∙ same)
@@ -136,18 +113,10 @@ module _ (f : SignedDataElements) where
     first : IsFirstAlgorithm f algorithm
     first = ([], alone)
 
-    pub broken_5 : (octets : List ℕ) → octets ≡ encoding content.algorithm.is.0 → (octets ≡ encoding algorithm → ⊥) → IsFirstBroken (form_rules f) errors.DigestAlgorithmMismatch
-    broken_5 octets e different =
-        inr (version_met f version, inr (signers_met f one, inr (algorithms_met f (ap length alone), inr (content_met f d is.has, inr (indirect_met f d is.has, inl (algorithm, d, first, is.has, differs octets e different, refl))))))
-
     same_content : (octets : List ℕ) → octets ≡ encoding content.algorithm.is.0 → octets ≡ encoding algorithm → IsSameElement d.algorithm algorithm
     same_content octets e same = ap encoding (sym is.algorithm) ∙ sym e ∙ same
 
     module _ (octets : List ℕ) (lent : octets ≡ encoding content.algorithm.is.0) (same : octets ≡ encoding algorithm) (g : SignerElements) (signer : IsFirstSigner f g) (named : List ℕ) (names : named ≡ encoding g.digest_algorithm) where
-      pub broken_6 : (named ≡ encoding algorithm → ⊥) → IsFirstBroken (form_rules f) errors.DigestAlgorithmMismatch
-      broken_6 different =
-          inr (version_met f version, inr (signers_met f one, inr (algorithms_met f (ap length alone), inr (content_met f d is.has, inr (indirect_met f d is.has, inr (content_same_met f algorithm d first is.has (same_content octets lent same), inl (algorithm, g, first, signer, (λ s. different (names ∙ s)), refl)))))))
-
       pub has_form : named ≡ encoding algorithm → HasForm f algorithm d g
       has_form s = record {
         version = version;

@@ -20,10 +20,6 @@ use Rattle.authenticode_core.proofs.WalkSteps.{one_path, same_certificate}
 pub kept_once : (a b : KeptCertificate) → a.elements ≡ b.elements → a ≡ b
 kept_once a b e = same_kept a b e
 
--- a signer has at most one vouched path
-pub path_once : (judge : Judge) (w : Window) (bag : List CertificateElements) (signer : KeptCertificate) (a b : List ℕ) → IsVouchedPath judge w bag signer a → IsVouchedPath judge w bag signer b → a ≡ b
-path_once judge w bag signer a b p q = one_path bag signer.elements a b p.is_path q.is_path
-
 -- ---- certificates at indices
 
 -- at an index there is one stored certificate

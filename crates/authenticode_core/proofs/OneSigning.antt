@@ -200,9 +200,6 @@ module _ (judge : Judge) (f : SignedDataElements) (d : IndirectData) (g : Signer
 
   -- ---- none of them reports out of memory
 
-  no_key_name : errors.Memory ≡ errors.IncorrectSignerIdentifier → ⊥
-  no_key_name e = absurd cc
-
   no_certificate : (issuer : DirectoryName) (serial_number : IntegerAsn1) → errors.Memory ≡ errors.NoCertificatesAssociatedWithIssuerAndSerialNumber issuer serial_number → ⊥
   no_certificate issuer serial_number e = absurd cc
 
@@ -221,20 +218,4 @@ module _ (judge : Judge) (f : SignedDataElements) (d : IndirectData) (g : Signer
   no_mismatch : (actual expected : List ℕ) → errors.Memory ≡ errors.HashMismatch actual expected → ⊥
   no_mismatch actual expected e = absurd cc
 
-  no_purpose : errors.Memory ≡ errors.NoEKUCodeSigning → ⊥
-  no_purpose e = absurd cc
-
-  pub memory_breaks_no_rule : NoneReturns (signing_rules judge f d g) errors.Memory
-  memory_breaks_no_rule = (
-    λ p. no_key_name p.2,
-    (
-      λ p. no_certificate p.issuer p.serial_number p.returned,
-      (
-        λ p. no_algorithm p.1 p.2,
-        (
-          λ p. no_signature p.refused.source p.refused.returned,
-          (λ p. no_message p.1, (λ p. no_hash p.1, (λ p. no_mismatch p.actual (digest_of p.hash (digested_octets d)) p.returned, (λ p. no_purpose p.returned, tt)))),
-        ),
-      ),
-    ),
   )

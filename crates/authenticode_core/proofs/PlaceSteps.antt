@@ -38,11 +38,6 @@ none_yet bag holds from place c none stands fails other d later before at fits =
 
 -- ---- where a cursor is
 
--- before the first certificate
-pub at_start : (cursor : Bag) (members : List DerElement) (bag : List CertificateElements) → left_members cursor.members ≡ members → cursor.place ≡ 0 → IsBag members bag → StandsIn cursor bag
-at_start cursor members bag e placed p =
-    record { before = []; behind = bag; are = refl; placed = placed; left = subst (λ (ms : List DerElement). IsBag ms bag) (sym e) p }
-
 -- the members that are left have no certificate, so the cursor is after the last
 pub ended : (cursor : Bag) (members : List DerElement) (bag : List CertificateElements) → left_members cursor.members ≡ members → IsBag members [] → StandsIn cursor bag → length bag ≡ cursor.place
 ended cursor members bag e none s =

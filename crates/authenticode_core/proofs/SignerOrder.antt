@@ -351,9 +351,6 @@ returns_so e id cause t is test = (
   λ returns. test.1 (subst IsExpiry (same_cause returns.0 id returns.1 cause (sym returns.3 ∙ is)) returns.2),
 )
 
-pub returns_not : (e : CertError) → ((id : DirectoryName) (cause : CertCause) → e ≡ cert_errors.InvalidCertificate id cause → ⊥) → IsTrue false ↔ ReportsExpiry e
-returns_not e none = (λ on. absurd cc, λ returns. absurd (none returns.0 returns.1 returns.3))
-
 -- ---- with and without the chain
 
 module _ (judge : Judge) (w : Window) (bag : List CertificateElements) (signer : KeptCertificate) where

@@ -71,12 +71,6 @@ abbrev pub IsOnList : CertificateTrustList → ℤ → DerElement → Type 0
 IsOnList list now name =
     (entries : List CTLEntry) × HasEntries list entries × IsListed entries (encoding name) now
 
--- if the policy has a list, the name is on it
-abbrev pub IsOnListOf : Policy → DerElement → Type 0
-IsOnListOf policy name =
-    (list : CertificateTrustList) → option_copied policy.list ≡ Some list
-    → IsOnList list policy.now name
-
 -- the error for a name that isn't listed
 abbrev pub of_listing : ListingError → AuthenticodeError
 of_listing listings.NotListed = errors.CAIsNotTrusted

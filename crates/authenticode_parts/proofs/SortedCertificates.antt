@@ -27,13 +27,6 @@ abbrev pub AreSorted : List KeptCertificate → List KeptCertificate → List Ce
 AreSorted all rest members =
     (later : List CertificateElements) → AreWithoutRoots (elements_of rest) later → HoldsWithoutRoots (elements_of all) (map certificate_choice members ++ map certificate_of later)
 
-pub none_sorted : (all : List KeptCertificate) (members : List CertificateChoices) → members ≡ [] → AreSorted all all members
-none_sorted all members e later p = (later, p, ap (λ (ms : List CertificateChoices). map certificate_choice ms ++ map certificate_of later) e)
-
-pub root_passed : (all rest others : List KeptCertificate) (k : KeptCertificate) (members : List CertificateChoices) → AreSorted all rest members → rest ≡ k ∷ others → IsRootCertificate k.elements → AreSorted all others members
-root_passed all rest others k members sorted e root later p =
-    sorted later (subst (λ (ks : List KeptCertificate). AreWithoutRoots (elements_of ks) later) (sym e) (inl (root, p)))
-
 pub other_kept : (all rest others : List KeptCertificate) (k : KeptCertificate) (members members' : List CertificateChoices) (member : CertificateChoices) → AreSorted all rest members → rest ≡ k ∷ others → (IsRootCertificate k.elements → ⊥)
     → certificate_choice member ≡ certificate_of k.elements → members' ≡ members ++ member ∷ [] → AreSorted all others members'
 other_kept all rest others k members members' member sorted e other is pushed later p =
@@ -46,11 +39,6 @@ all_sorted all rest members sorted e =
     (sorted [] (subst (λ (ks : List KeptCertificate). AreWithoutRoots (elements_of ks) []) (sym (none_left rest e)) refl))
 
 -- ---- a single one, or those
-
-pub one_carried : (bag : List KeptCertificate) (members : List DerElement) → length bag ≡ 1 → members ≡ whole_elements bag → HoldsCarried (elements_of bag) members
-one_carried [] members e is = absurd (omega (arith, e))
-one_carried (k ∷ []) members e is = (k.elements ∷ [], refl, is)
-one_carried (k ∷ l ∷ bag) members e is = absurd (omega (arith, e))
 
 pub others_carried : (bag : List KeptCertificate) (members : List DerElement) → (length bag ≡ 1 → ⊥) → HoldsWithoutRoots (elements_of bag) members → HoldsCarried (elements_of bag) members
 others_carried [] members e h = h

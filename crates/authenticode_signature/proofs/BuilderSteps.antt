@@ -39,14 +39,6 @@ abbrev first_two : AuthenticodeSignatureBuilder → List (Step AuthenticodeSigna
 first_two b = part_step errors.MissingDigestAlgorithm b.digest_algorithm ∷ supported_step b.digest_algorithm ∷ []
 
 module _ (b : AuthenticodeSignatureBuilder) where
-  pub not_supported : (e : AuthenticodeSignatureBuilderError) → IsFirstUntaken (first_two b) e → IsFirstUntaken (part_steps b) e
-  not_supported e refused =
-      untaken_before (first_two b)
-      (part_step errors.MissingContentInfo b.content_info ∷ part_step errors.MissingSigningKey b.signing_key ∷ part_step errors.MissingIssuerAndSerialNumber b.named ∷ part_step errors.MissingCertificatesRequired b.certs ∷ []) e refused
-
-  pub no_content_given : AreTaken (first_two b) → b.content_info ≡ None → IsFirstUntaken (part_steps b) errors.MissingContentInfo
-  no_content_given taken none = inr (taken.0, inr (taken.1.0, inl (none, refl)))
-
   pub no_key_given : (content : EncapsulatedContentInfo) → AreTaken (first_two b) → b.content_info ≡ Some content → b.signing_key ≡ None → IsFirstUntaken (part_steps b) errors.MissingSigningKey
   no_key_given content taken is none = inr (taken.0, inr (taken.1.0, inr ((content, is), inl (none, refl))))
 
@@ -80,14 +72,6 @@ not_for_code g c first fails = inl (inr ((c, first), inl (c, first, fails, refl)
 
 -- ---- optional attributes
 
-pub given_attributes : {X E : Type 0} (option : Option (List Attribute)) (list : List Attribute) (result : Result X E) (Is : List Attribute → X → Type 0) (Refuses : List Attribute → E → Type 0) → option ≡ Some list
-    → MatchResult result (Is list) (Refuses list) → MatchResult result (Is (attributes_in option)) (Refuses (attributes_in option))
-given_attributes option list result Is Refuses e holds = rw e holds
-
-pub no_given_attributes : {X E : Type 0} (option : Option (List Attribute)) (result : Result X E) (Is : List Attribute → X → Type 0) (Refuses : List Attribute → E → Type 0) → option ≡ None
-    → MatchResult result (Is []) (Refuses []) → MatchResult result (Is (attributes_in option)) (Refuses (attributes_in option))
-no_given_attributes option result Is Refuses e holds = rw e holds
-
 -- ---- the steps with the arguments
 
 module _ (signs : Signs) (b : AuthenticodeSignatureBuilder) (g : Given) where
@@ -117,11 +101,6 @@ module _ (signs : Signs) (b : AuthenticodeSignatureBuilder) (g : Given) where
       refused_behind errors.Memory (named_step g ∷ purpose_step g ∷ element_step (content_by g) ∷ element_step (attributes_by (attributes_in b.authenticated_attributes)) ∷ []) (key_step signs (algorithm_by g) g.key (message_by b g) ∷ []) e
       ((c, signer.first), ((c, signer), (der, (bounded, tt)))) refused
 
-  -- all of them
-  pub all_taken : (judge : Judge) (pair : Pair) (c : CertificateElements) (signature : List ℕ) → IsSigner g c → AreDer (content_by g) → AreDer (attributes_by (attributes_in b.authenticated_attributes))
-      → IsSignature (arithmetic judge signs pair) (algorithm_by g) g.key (message_by b g) signature → AreTaken (steps_of signs b g)
-  all_taken judge pair c signature signer der bounded is = ((c, signer.first), ((c, signer), (der, (bounded, (is.signed, tt)))))
-
 -- ---- the signature over the message
 
 module _ (b : AuthenticodeSignatureBuilder) (g : Given) (algorithm : HashAlgorithm) (octets : List ℕ) (element : DerElement) (known : hash_of g.hash ≡ algorithm) (written : octets ≡ encoding (content_info g.content))
@@ -144,17 +123,6 @@ module _ (b : AuthenticodeSignatureBuilder) (g : Given) (algorithm : HashAlgorit
 
 -- ---- the signature
 
-pub built_of : (judge : Judge) (signs : Signs) (pair : Pair) (b : AuthenticodeSignatureBuilder) (g : Given) (built : SignedDataElements) (c : CertificateElements) (element : DerElement) (signature : List ℕ)
-    → IsSigner g c → element ≡ attributes_element (map attribute (attributes_in b.authenticated_attributes)) → IsSignature (arithmetic judge signs pair) (algorithm_by g) g.key (message_by b g) signature
-    → (carried : List CertificateElements) → AreWithoutRoots g.bag carried → built ≡ signature_made (record (parts_by b g carried signature) { attributes = element }) → IsBuiltOf (arithmetic judge signs pair) b g built
-built_of judge signs pair b g built c element signature signer kept is carried are fields = record {
-  signer = c;
-  is_signer = signer;
-  carried = carried;
-  are_carried = are;
-  signature = signature;
-  is_signature = is;
-  fields = fields ∙ ap (λ (x : DerElement). signature_made (record (parts_by b g carried signature) { attributes = x })) kept;
 }
 
 -- ---- the steps of the builder

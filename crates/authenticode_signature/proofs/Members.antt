@@ -51,12 +51,6 @@ one_read all rest others kept kept' member element k read e at m pushed bag p =
     let more : IsBag (map certificate_choice rest) (k.elements ∷ bag) = subst (λ (r : List CertificateChoices). IsBag (map certificate_choice r) (k.elements ∷ bag)) (sym e) (inr (k.elements, bag, refl, here, p)) in
     subst (λ (fs : List CertificateElements). IsBag (map certificate_choice all) fs) (one_before kept kept' k bag pushed) (read (k.elements ∷ bag) more)
 
-pub one_passed : (all rest others : List CertificateChoices) (kept : List KeptCertificate) (member : CertificateChoices) (element : DerElement) → AreRead all rest kept → rest ≡ member ∷ others
-    → element ≡ certificate_choice member → ((f : CertificateElements) → IsMember element f → ⊥) → AreRead all others kept
-one_passed all rest others kept member element read e at none bag p =
-    let fails : (f : CertificateElements) → IsMember (certificate_choice member) f → ⊥ = subst (λ (x : DerElement). (f : CertificateElements) → IsMember x f → ⊥) at none in
-    read bag (subst (λ (r : List CertificateChoices). IsBag (map certificate_choice r) bag) (sym e) (inl (fails, p)))
-
 empty : (rest : List CertificateChoices) → length rest ≡ 0 → rest ≡ []
 empty [] e = refl
 empty (member ∷ others) e = absurd (omega (arith, e))

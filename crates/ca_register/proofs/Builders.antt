@@ -139,18 +139,6 @@ pub unbuilt_is_no_key : (source : CertError) (other : SignatureError) → unbuil
 unbuilt_is_no_key cert_errors.Memory other e = absurd cc
 unbuilt_is_no_key _ other e = absurd cc
 
-same_source : (a b : SignatureError) → errors.WrongKey a ≡ errors.WrongKey b → a ≡ b
-same_source a b e = cc
-
-wrong_key_is : (source other : SignatureError) → wrong_key source ≡ errors.WrongKey other → source ≡ other
-wrong_key_is signature.Memory other e = absurd cc
-wrong_key_is (signature.Key s) other e = same_source _ other e
-wrong_key_is (signature.Rsa s) other e = same_source _ other e
-wrong_key_is (signature.Ec s) other e = same_source _ other e
-wrong_key_is (signature.Ed s) other e = same_source _ other e
-wrong_key_is signature.BadSignature other e = same_source _ other e
-wrong_key_is (signature.UnsupportedAlgorithm s) other e = same_source _ other e
-
 -- ---- the algorithm
 
 pub names_algorithm : (judge : Judge) (signs : Signs) (pair : Pair) (b : CertificateBuilder) (word : ℕ) (cert : KeptCertificate) → IsBuilt (arithmetic judge signs pair) b word cert → (algorithm : SignatureAlgorithm) → b.signature_hash_type ≡ algorithm

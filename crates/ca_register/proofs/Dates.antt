@@ -24,9 +24,6 @@ not_before_itself a = not_own_reverse (order a a) (nat_list_cmp_total.antisymm (
 pub earlier_over : (a b c : GeneralizedTime) → IsEarlier a b → IsEarlier b c → IsEarlier a c
 earlier_over a b c = nat_list_cmp_total.trans (generalized_fields a) (generalized_fields b) (generalized_fields c)
 
-pub not_both_ways : (a b : GeneralizedTime) → IsEarlier a b → IsEarlier b a → ⊥
-not_both_ways a b p q = not_before_itself a (earlier_over a b a p q)
-
 less_or_not : (o : Ordering) → (o ≡ Less) ⊎ ((o ≡ Equal) ⊎ (o ≡ Greater))
 less_or_not Less = inl refl
 less_or_not Equal = inr (inl refl)

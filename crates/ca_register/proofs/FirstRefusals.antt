@@ -44,9 +44,6 @@ recorded entries (Some issuer) grant e (inr (taken, inl x)) = subst IsRecorded (
 recorded entries (Some issuer) grant e (inr (taken, inr (able, inl x))) = subst IsRecorded (sym x.2) tt
 recorded entries (Some issuer) grant e (inr (taken, inr (able, inr (deep, none)))) = absurd none
 
-pub first_recorded : (lines : List Line) (e : IssueError) → IsFirstRefused lines e → IsRecorded e
-first_recorded lines e first = recorded (entries_of first.ahead) first.refused.issuer (grant_of first.refused) e first.reason
-
 -- ---- one reason
 
 -- Two lists that begin a third one: they are the same, or one goes on with the line behind the other.

@@ -88,9 +88,6 @@ nothing_left (line ∷ more) spelled =
 
 -- at the end of a text
 module _ (text rest : List ℕ) (read : List Line) (so_far : HasRead text rest read) (none : rest ≡ []) where
-  pub read_all : IsRegisterText text read
-  read_all = record { few = so_far.few; each = so_far.each; spelled = so_far.spelled ∙ ap (λ (r : List ℕ). flat_map line_text read ++ r) none ∙ append-nil (flat_map line_text read) }
-
   pub read_once : (lines : List Line) → IsRegisterText text lines → read ≡ lines
   read_once lines is =
       let left = so_far.left lines is in

@@ -42,9 +42,6 @@ module _ (entries : List Entry) (issuer : ℕ) where
   IsDeepSoFar number at = (ancestors : List ℕ) → AreAncestors (history_of entries) issuer ancestors
       → (slice_get (issuer ∷ ancestors) number ≡ Some at) × ((nearer : ℕ) → nearer ≤ number → IsTooShort entries (issuer ∷ ancestors) nearer → ⊥)
 
-  pub deep_at_issuer : IsDeepSoFar 0 issuer
-  deep_at_issuer ancestors are = (refl, λ nearer few short. omega (arith, few, short.short))
-
   abbrev pub IsShortAt : (above number : ℕ) → Type 0
   IsShortAt above number = (entry : Entry) × HasEntry entries above entry × ((limit : ℕ) × (entry.grant.path_length ≡ Some limit) × (limit < number))
 

@@ -38,7 +38,3 @@ units_step text rest c utf8 parts = ap (flat_map unit_octets) (chars_past_char t
 pub even_units : (characters : List ℕ) → length (flat_map unit_octets characters) % 2 ≡ 0
 even_units [] = refl
 even_units (c ∷ cs) = omega (arith, even_units cs)
-
--- the octets of a number below 2^16, in big-endian order, are those of the unit
-pub unit_octets_of : (u : ℕ) → u ≤ 0xFFFF → to_be_bytes w16 u ≡ unit_octets u
-unit_octets_of u below = let higher : u / 256 % 256 ≡ u / 256 = omega (arith, below) in λ i. higher i ∷ u % 256 ∷ []

@@ -44,10 +44,6 @@ first_pkcs7 all (MorePkcs7s {kid = k} {kids = ks} one more) kid rest e =
 
 -- ---- signers
 
-pub signer_level : (e : DerElement) → IsSignerInfo e → (f : SignerElements) × IsSignerOf e f
-signer_level e (Bare {f = f} of none) = (f, of)
-signer_level e (WithUnsigned {f = f} of some each) = (f, of)
-
 pub one_signer : (e : DerElement) (f g : SignerElements) → IsSignerOf e f → IsSignerOf e g → f ≡ g
 one_signer e f g p q = same_signer f g (determined_fields f p.fields) (determined_fields g q.fields) (sym p.is ∙ q.is)
 
@@ -89,9 +85,6 @@ ms_counter_values e a (Counter {values = b} of each) there = let no = (unsigned_
 ms_counter_values e a (Any {values = b} of) there = let no = (unsigned_once e kinds.Other kinds.MsCounterSign b a of there).0 in absurd cc
 
 -- ---- signed data
-
-pub data_level : (e : DerElement) → IsSignedData e → (f : SignedDataElements) × IsSignedDataOf e f
-data_level e (Signed {f = f} of held each) = (f, of)
 
 pub one_data : (e : DerElement) (f g : SignedDataElements) → IsSignedDataOf e f → IsSignedDataOf e g → f ≡ g
 one_data e f g p q = same_data f g (determined_data f p.fields) (determined_data g q.fields) (sym p.is ∙ q.is)

@@ -23,9 +23,6 @@ use Rattle.demo_core.specs.declared.history.Step.{Step}
 never : IsTrue false → ⊥
 never e = absurd cc
 
-some_is_not : (issuer : ℕ) → Some issuer ≡ None → ⊥
-some_is_not issuer e = absurd cc
-
 -- ---- the steps of a history
 
 issuers_more : (history : History) (index : ℕ) (issuers : List ℕ) (at issuer : ℕ) → AreIssuers history index issuers → last_of index issuers ≡ at → HasIssuer history at issuer
@@ -48,9 +45,6 @@ module _ (steps : List Step) (certificates : List KeptCertificate) where
 
   abbrev pub IsIssuer : ℕ → Option ℕ → Type 0
   IsIssuer at issuer = (step : Step) → slice_get steps at ≡ Some step → issuer ≡ step.issuer
-
-  pub not_walked : (index : ℕ) → IsWalked index index []
-  not_walked index = λ history of. ([], tt, refl, tt)
 
   recorded_issuer : (history : History) (of : IsHistoryOf steps (length steps) certificates history) (at : ℕ) (issuer : Option ℕ) → at < length steps → IsIssuer at issuer
       → (recorded : IssuingStep) × HasStep history at recorded × (recorded.issuer ≡ issuer)
@@ -97,9 +91,6 @@ module _ (steps : List Step) (certificates : List KeptCertificate) where
   root_at at within is =
       let step = item_at steps at within in
       (λ yes. (step.0, step.1, sym (is step.0 step.1)), λ root. refl)
-
-  pub not_root_at : (at issuer : ℕ) → IsIssuer at (Some issuer) → IsTrue false ↔ IsRootAt steps at
-  not_root_at at issuer is = (λ no. absurd (never no), λ root. absurd (some_is_not issuer (is root.0 root.1 ∙ root.2)))
 
   -- ---- the validation
 

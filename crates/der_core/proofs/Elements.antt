@@ -25,16 +25,6 @@ branch_read {levels} {tag} {octets} {rest = rest} kids head bit read same =
     let head' = subst (λ (o : List ℕ). HasHead levels octets tag o rest) same head in
     (record { formed = (head.is_tag, bit, read.formed); nested = omega (arith, read.nested, head.some); short = (head'.short, read.short) }, head'.parts)
 
-pub push_read : (levels : ℕ) (kids : List DerElement) (kid : DerElement) → AreDerWithin levels (row kids) → IsDerWithin levels kid → AreDerWithin levels (row (kids ++ kid ∷ []))
-push_read levels [] kid before der = record { formed = (der.formed, tt); nested = omega (arith, der.nested); short = (der.short, tt) }
-push_read levels (first ∷ kids) kid before der =
-    let after = push_read levels kids kid (record { formed = before.formed.1; nested = omega (arith, before.nested); short = before.short.1 }) der in
-    record { formed = (before.formed.0, after.formed); nested = omega (arith, before.nested, after.nested); short = (before.short.0, after.short) }
-
-pub encodings_push : (kids : List DerElement) (kid : DerElement) → encodings (row (kids ++ kid ∷ [])) ≡ encodings (row kids) ++ encoding kid
-encodings_push [] kid = append-nil (encoding kid)
-encodings_push (first ∷ kids) kid = ap (λ (o : List ℕ). encoding first ++ o) (encodings_push kids kid) ∙ sym (append_assoc (encoding first) (encodings (row kids)) (encoding kid))
-
 -- ---- if nothing is read
 
 pub no_head : (levels : ℕ) (octets : List ℕ) (fault : DerFault) → head_at levels octets ≡ Err fault → HasElement levels octets → ⊥
@@ -83,6 +73,3 @@ pub first_once : (octets : List ℕ) (a b : DerElement) (m n : ℕ) → IsFirst 
 first_once octets a b m n first second =
     let same = (fronts a b (drop m octets) (drop n octets) first.der.formed second.der.formed first.der.short second.der.short (sym (first_parts octets a m first) ∙ first_parts octets b n second)).0 in
     (same, first.many ∙ ap (λ (t : DerElement). length (encoding t)) same ∙ sym second.many)
-
-pub first_stands : (octets : List ℕ) (a : DerElement) (n : ℕ) → IsFirst octets a n → HasElement 64 octets
-first_stands octets a n first = (a, drop n octets, first.der, first_parts octets a n first)

@@ -15,10 +15,6 @@ nesting-kids (Constructed tag ks) kids e =
     let same : kids ≡ listed ks = cc in
     ap (λ k. deepest k + 1) (sym (row-listed ks)) ∙ ap (λ k. deepest (row k) + 1) (sym same)
 
-pub nesting-leaf : (t : DerElement) → None ≡ kids_of t → nesting t ≡ 1
-nesting-leaf (Primitive tag content) e = refl
-nesting-leaf (Constructed tag kids) e = absurd cc
-
 pub deepest-drop : (kids : List DerElement) (i : ℕ) (d : DerElement) → i < length kids → deepest (row (drop i kids)) ≡ max (nesting (get_or kids i d)) (deepest (row (drop (i + 1) kids)))
 deepest-drop kids i d h = at_drop_more (λ k. deepest (row k)) kids i d h
 

@@ -30,12 +30,6 @@ first_more spells all rest rest' values values' element value so_far next one pu
   each = subst (AreEach spells (so_far.first ++ element ∷ [])) (sym pushed) (each_more spells so_far.first values element value so_far.each one);
 }
 
--- if nothing is left, all are returned
-pub first_all : {X : Type 0} (spells : DerElement → X → Type 0) (all rest : List DerElement) (values : List X)
-    → AreFirst spells all rest values → rest ≡ [] → AreEach spells all values
-first_all spells all rest values so_far none =
-    subst (λ elements. AreEach spells elements values) (sym (so_far.are ∙ ap (λ r. so_far.first ++ r) none ∙ append-nil so_far.first)) so_far.each
-
 each_without : {X : Type 0} (spells : DerElement → X → Type 0) (before : List DerElement) (element : DerElement) (after : List DerElement) (values : List X)
     → AreEach spells (before ++ element ∷ after) values → ((value : X) → spells element value → ⊥) → ⊥
 each_without spells [] element after [] each none = each
@@ -72,12 +66,6 @@ written_more written inner all rest rest' elements elements' value element so_fa
       };
     }
 
--- if nothing is left, all are written
-pub written_all : {X : Type 0} (written : X → DerElement) (inner : X → List DerElement) (all rest : List X) (elements : List DerElement)
-    → AreFirstWritten written inner all rest elements → rest ≡ [] → AreWritten written inner all elements
-written_all written inner all rest elements so_far none =
-    subst (λ values. AreWritten written inner values elements) (sym (so_far.parts ∙ ap (λ r. so_far.first ++ r) none ∙ append-nil so_far.first)) so_far.done
-
 -- what prevents the next value from being written prevents all of them
 pub written_not : {X : Type 0} (written : X → DerElement) (inner : X → List DerElement) (all rest rest' : List X) (elements : List DerElement) (value : X) (e : DerError)
     → AreFirstWritten written inner all rest elements → rest ≡ value ∷ rest' → RefusesInner (inner value) e → RefusesInner (flat_map inner all) e
@@ -112,6 +100,3 @@ rest_each' spells rest rest' element (v ∷ values) next each = let both = subst
 pub rest_each : {X : Type 0} (spells : DerElement → X → Type 0) (rest rest' : List DerElement) (element : DerElement)
     → rest ≡ element ∷ rest' → Fits (AreEach spells) rest → Fits spells element × Fits (AreEach spells) rest'
 rest_each spells rest rest' element next fits = rest_each' spells rest rest' element fits.0 next fits.1
-
-pub none_fits : {X : Type 0} (spells : DerElement → X → Type 0) (rest : List DerElement) → rest ≡ [] → Fits (AreEach spells) rest
-none_fits spells rest none = ([], subst (λ es. AreEach spells es []) (sym none) tt)

@@ -31,22 +31,6 @@ line_none false held none = none refl
 
 -- ---- calls
 
--- memory ran out for the words or for the sink
-pub IsCall-memory : {Job : Type 0} (program : Program Job) (words : List (List ℕ)) (files : Files) (room : ℕ) → IsCall program words files room [] 7
-IsCall-memory program words files room = record {
-  bounded = omega arith;
-  reported = λ low. absurd (omega arith);
-  usage = λ e. absurd (omega arith);
-  usage_always = λ none. inr refl;
-  bad_table = λ e. absurd (omega arith);
-  bad_table_always = λ job some bad. inr refl;
-  no_file = λ e. absurd (omega arith);
-  missing = λ job ahead behind name some are m. inl (inr refl);
-  no_room = λ e. absurd (omega arith);
-  too_long = λ e. absurd (omega arith);
-  too_long_always = λ job ahead behind name some are long. inl (inr refl);
-  no_line = λ two. refl;
-  answered = λ job answer some is. inl (inr refl);
 }
 
 module _ {Job : Type 0} (program : Program Job) (words : List (List ℕ)) (files files_now : Files) (rest : List ℕ) (given faults room : ℕ)

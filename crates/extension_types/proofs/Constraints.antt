@@ -37,32 +37,6 @@ behind element kids rest ca b holds takes is =
     (split 0x01 takes.flag is.flag rest (optional_integer b.pathlen) (optional_field takes.flag ca takes.is) (optional_field is.flag b.ca is.flagged) takes.once (λ e. no_flag b.pathlen)
     (sym takes.are ∙ same_fields kids (is.flag ++ optional_integer b.pathlen) (sym holds ∙ is.is))).1
 
-bad_number : (all : List DerElement) (number : Option ℕ) → HasBadLength all → all ≡ optional_integer number → ⊥
-bad_number all None bad e = absurd cc (bad.are, e)
-bad_number all (Some n) bad e = bad.none n (first_of (sym bad.are ∙ e))
-  where
-    first_of : {k l : DerElement} {ks ls : List DerElement} → k ∷ ks ≡ l ∷ ls → k ≡ l
-    first_of e = cc
-
-pub bad_length : (element : DerElement) (kids rest : List DerElement) (ca : Option Bool) (b : BasicConstraints) → element ≡ sequence kids → TakesBoolean kids ca rest → HasBadLength rest → IsBasicConstraints element b → ⊥
-bad_length element kids rest ca b holds takes bad is = bad_number rest b.pathlen bad (behind element kids rest ca b holds takes is)
-
-more_number : (all rest : List DerElement) (m n : Option ℕ) → TakesLength all m rest → HasMore rest → all ≡ optional_integer n → ⊥
-more_number all rest None n takes more e = absurd cc (takes.last refl, more.are)
-more_number all rest (Some m) None takes more e = absurd cc (takes.are, e)
-more_number all rest (Some m) (Some n) takes more e = absurd cc (takes.are, e, more.are)
-
-pub more_kids : (element : DerElement) (kids rest last : List DerElement) (ca : Option Bool) (m : Option ℕ) (b : BasicConstraints)
-    → element ≡ sequence kids → TakesBoolean kids ca rest → TakesLength rest m last → HasMore last → IsBasicConstraints element b → ⊥
-more_kids element kids rest last ca m b holds takes length more is = more_number rest last m b.pathlen length more (behind element kids rest ca b holds takes is)
-
--- nothing follows them
-pub all_kids : (element : DerElement) (kids rest last : List DerElement) (b : BasicConstraints)
-    → element ≡ sequence kids → TakesBoolean kids b.ca rest → TakesLength rest b.pathlen last → last ≡ [] → IsBasicConstraints element b
-all_kids element kids rest last b holds takes length none = record {
-  flag = takes.flag;
-  flagged = takes.is;
-  is = holds ∙ ap sequence (takes.are ∙ ap (λ (r : List DerElement). takes.flag ++ r) (length.are ∙ ap (λ (r : List DerElement). optional_integer b.pathlen ++ r) none ∙ nothing_behind b.pathlen));
 }
   where
     nothing_behind : (number : Option ℕ) → optional_integer number ++ [] ≡ optional_integer number

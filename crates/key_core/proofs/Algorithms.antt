@@ -68,7 +68,3 @@ ec_may_have read (Some parameters) has = has
 
 pub may_have : (value : PrivateKeyValue) (read : ECPrivateKey) (parameters : Option DerElement) → value ≡ values.Ec read → HasCurve value parameters → MayHave kinds.Ec parameters
 may_have value read parameters is has = ec_may_have read parameters (subst (λ (v : PrivateKeyValue). HasCurve v parameters) is has)
-
-pub public_may_have : (key : SubjectKey) (bits : BitString) (parameters : Option DerElement)
-    → key ≡ keys.Ec bits → MayHave (kind_of_key key) parameters → MayHave kinds.Ec parameters
-public_may_have key bits parameters is may = subst (λ (k : SubjectKey). MayHave (kind_of_key k) parameters) is may

@@ -79,9 +79,6 @@ same_bits x y e = cc
 none_is_not : (x : BitString) → ◌≡◌ {A = Option BitString} None (Some x) → ⊥
 none_is_not x e = cc
 
-same_some_curve : (x y : EcCurve) → ◌≡◌ {A = Option EcCurve} (Some x) (Some y) → x ≡ y
-same_some_curve x y e = cc
-
 ec_is_not_rsa : (x : ECPrivateKey) (y : RsaPrivateKey) → values.Ec x ≡ values.Rsa y → ⊥
 ec_is_not_rsa x y e = cc
 

@@ -170,9 +170,6 @@ accept_is_not_malformed e = cc
 accept_is_not_reject : verdicts.Accept ≡ verdicts.Reject → ⊥
 accept_is_not_reject e = cc
 
-reject_is_not_malformed : verdicts.Reject ≡ verdicts.Malformed → ⊥
-reject_is_not_malformed e = cc
-
 pub accepted_is_met : (judge : Judge) (algorithm : SignatureAlgorithm) (info : SubjectPublicKeyInfo) (msg sig : List ℕ) (e : SignatureError)
     → Accepts judge algorithm info msg sig → IsFirstBroken (verify_rules judge algorithm info msg sig) e → ⊥
 accepted_is_met judge algorithm info msg sig e accepts broken =
@@ -189,15 +186,6 @@ pub malformed_is_broken : (judge : Judge) (algorithm : SignatureAlgorithm) (info
 malformed_is_broken judge algorithm info msg sig judged =
     broken_behind (key_rules algorithm info) _ (malformed algorithm) (key_met algorithm info judged.alg judged.bytes judged.fits)
     (inr (writable algorithm info judged.alg judged.bytes judged.fits, inl (judged, refl)))
-
-pub rejected_is_broken : (judge : Judge) (algorithm : SignatureAlgorithm) (info : SubjectPublicKeyInfo) (msg sig : List ℕ)
-    → IsJudged judge algorithm info msg sig verdicts.Reject → IsFirstBroken (verify_rules judge algorithm info msg sig) errors.BadSignature
-rejected_is_broken judge algorithm info msg sig judged =
-    broken_behind (key_rules algorithm info) _ errors.BadSignature (key_met algorithm info judged.alg judged.bytes judged.fits)
-    (inr (
-      writable algorithm info judged.alg judged.bytes judged.fits,
-      inr (λ e malformed. reject_is_not_malformed (one_verdict judge algorithm info msg sig verdicts.Reject verdicts.Malformed judged malformed.0), inl (judged, refl)),
-    ))
 
 pub early : (judge : Judge) (algorithm : SignatureAlgorithm) (info : SubjectPublicKeyInfo) (msg sig : List ℕ) (e : SignatureError)
     → RefusesSignatureBy (key_rules algorithm info ++ Unwritable info ∷ []) e → RefusesSignatureBy (verify_rules judge algorithm info msg sig) e
@@ -268,10 +256,3 @@ ed_sized now info bits is of (Err e) sized =
 pub ed_unknown : (info : SubjectPublicKeyInfo) (bits : BitString) → info.subject_public_key ≡ keys.Ed bits → ((algorithm : EdAlgorithm) → IsOfEd info algorithm → ⊥)
     → IsFirstBroken (key_rules Ed25519 info) (errors.Key (key_errors.ED key_contexts.UnsupportedEd))
 ed_unknown info bits is none = inr (λ other broken. broken.0 (ap kind_of_key is), inr (λ other broken. none ed.X25519 broken.0, inl (none ed.Ed25519, refl)))
-
--- for an RSA key the borrowed octets are its own encoding
-pub lent_rsa : (key : SubjectKey) (octets : List ℕ) → ((k : RsaPublicKey) → key ≡ keys.Rsa k → IsPkcs1Of (keys.Rsa k) octets) → kind_of_key key ≡ kinds.Rsa → IsPkcs1Of key octets
-lent_rsa (keys.Rsa k) octets lent kind = lent k refl
-lent_rsa (keys.Ec bits) octets lent kind = absurd cc
-lent_rsa (keys.Ed bits) octets lent kind = absurd cc
-lent_rsa (keys.Mldsa bits) octets lent kind = absurd cc

@@ -37,10 +37,6 @@ module _ (file table date_word : List ℕ) (option_words : List (List ℕ)) wher
   date_in job asked =
       subst (λ (w : List ℕ). IsDateWord w job.date) (sym (same_date_word job.file job.table asked.date_word asked.option_words asked.words_are)) asked.date_is
 
-  -- if the third is no date, they request nothing
-  pub no_date : ((d : GeneralizedTime) → IsDateWord date_word d → ⊥) → AsksForNothing Words
-  no_date none job asked = none job.date (date_in job asked)
-
   -- if those after it are no options, they request nothing
   pub no_options : ((o : CheckOptions) → AreOptions option_words o → ⊥) → AsksForNothing Words
   no_options none job asked = none job.options (options_in job asked)

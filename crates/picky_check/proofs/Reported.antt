@@ -27,9 +27,6 @@ pub out_of_memory : (answer other : Answer) (result : Result Report Stop) → Is
 out_of_memory answer other (Ok report) wants h = absurd (h.reportable wants)
 out_of_memory answer other (Err s) wants h = h
 
-pub GivesReport-memory : (answer : Answer) → GivesReport answer (Err stop.Memory)
-GivesReport-memory answer other = refl
-
 -- what is reported is an answer, and without a report memory ran out
 pub reported_is : (Is : Answer → Type 0) (answer : Answer) (result : Result Report Stop) → Is answer → IsReported answer result
     → ((other : Answer) → Is other → GivesReport other result) → Reports Is result

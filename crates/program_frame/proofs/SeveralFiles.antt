@@ -61,14 +61,6 @@ rises_with octets contents more before between after first rest =
     let total = sum_by-cons (λ (o : List ℕ). length o) octets contents in
     subst (λ (n : ℕ). RisesBy n before after) (omega (arith, total)) all
 
--- if memory ran out
-pub unread_memory : (before after : ShelfState) (names : List (List ℕ)) → AreUnread before after names file.Memory
-unread_memory before after names = record {
-  failed = λ e. absurd cc;
-  quiet = λ q there e. absurd cc;
-  long = λ ahead behind name are l q there e. absurd cc;
-  too_long = λ e. absurd cc;
-  missing = λ ahead behind name are m e. absurd cc;
 }
 
 module _ (before between after : ShelfState) (name : List ℕ) (names : List (List ℕ)) (e : FileError) where

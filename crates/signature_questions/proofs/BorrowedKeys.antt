@@ -32,12 +32,6 @@ use Rattle.key_core.specs.declared.signature_algorithm.SignatureAlgorithm.TheVar
 use Rattle.signature_questions.specs.declared.borrowed_key.BorrowedKey.{BorrowedKey}
 use Rattle.key_core.proofs.Curves.{same_curve}
 
-rsa_octets : (k : SubjectKey) (u : ℕ) (bits : List ℕ) → kind_of_key k ≡ kinds.Rsa → subject_public_key k ≡ Primitive 0x03 (u ∷ bits) → AreDer (inner_key k) → IsPkcs1Of k bits
-rsa_octets (keys.Rsa key) u bits kind is der = (cc, der.0)
-rsa_octets (keys.Ec b) u bits kind is der = absurd cc
-rsa_octets (keys.Ed b) u bits kind is der = absurd cc
-rsa_octets (keys.Mldsa b) u bits kind is der = absurd cc
-
 rsa_kind : (k : SubjectKey) (bytes : List ℕ) → IsPkcs1Of k bytes → kind_of_key k ≡ kinds.Rsa
 rsa_kind (keys.Rsa key) bytes is = refl
 rsa_kind (keys.Ec b) bytes is = absurd is
@@ -81,23 +75,8 @@ module _ (parts : BorrowedKey) (key : SubjectPublicKeyInfo) (lends : LendsKey pa
   names_it : (kind : KeyKind) → kind_of_key key.subject_public_key ≡ kind → IsTrue (names_kind kind parts.oid.now)
   names_it kind is = subst (λ (k : KeyKind). IsTrue (names_kind k parts.oid.now)) is named
 
-  pub rsa_fits : (hash : HashAlgorithm) → IsTrue (names_kind kinds.Rsa parts.oid.now) → FitsKey (RsaPkcs1v15 hash) key (rsa_alg hash) parts.bits.now
-  rsa_fits hash is = (refl, rsa_octets key.subject_public_key lends.unused parts.bits.now (kind_is kinds.Rsa is) lends.bits lends.within)
-
-  pub not_rsa : (hash : HashAlgorithm) → (IsTrue (names_kind kinds.Rsa parts.oid.now) → ⊥) → (alg : SigAlg) (bytes : List ℕ) → FitsKey (RsaPkcs1v15 hash) key alg bytes → ⊥
-  not_rsa hash none alg bytes fits = none (names_it kinds.Rsa (rsa_kind key.subject_public_key bytes fits.1))
-
-  pub not_ec : (hash : HashAlgorithm) → (IsTrue (names_kind kinds.Ec parts.oid.now) → ⊥) → (alg : SigAlg) (bytes : List ℕ) → FitsKey (Ecdsa hash) key alg bytes → ⊥
-  not_ec hash none alg bytes (curve, signs, is, point) = none (names_it kinds.Ec (ap kind_of_key point.is))
-
-  pub no_curve : (hash : HashAlgorithm) → ((curve : EcCurve) → at_option parts.parameters ≡ Some (object_identifier_of (curve_identifier curve)) → ⊥) → (alg : SigAlg) (bytes : List ℕ) → FitsKey (Ecdsa hash) key alg bytes → ⊥
-  no_curve hash none alg bytes (curve, signs, is, point) = none curve (lends.parameters ∙ point.on)
-
   one_curve : (a b : EcCurve) → at_option parts.parameters ≡ Some (object_identifier_of (curve_identifier a)) → kept_option (parameters_of key.algorithm) ≡ Some (object_identifier_of (curve_identifier b)) → a ≡ b
   one_curve a b at on = let both = sym at ∙ lends.parameters ∙ on in same_curve a b cc
-
-  pub unpaired : (hash : HashAlgorithm) (curve : EcCurve) → at_option parts.parameters ≡ Some (object_identifier_of (curve_identifier curve)) → curve_for hash ≢ Some curve → (alg : SigAlg) (bytes : List ℕ) → FitsKey (Ecdsa hash) key alg bytes → ⊥
-  unpaired hash curve at not alg bytes (other, signs, is, point) = not (signs ∙ ap (λ (c : EcCurve). Some c) (sym (one_curve curve other at point.on)))
 
   pub ec_fits : (hash : HashAlgorithm) (curve : EcCurve) → IsTrue (names_kind kinds.Ec parts.oid.now) → at_option parts.parameters ≡ Some (object_identifier_of (curve_identifier curve)) → curve_for hash ≡ Some curve → FitsKey (Ecdsa hash) key (ecdsa_alg curve) parts.bits.now
   ec_fits hash curve is at signs =
@@ -114,8 +93,3 @@ module _ (parts : BorrowedKey) (key : SubjectPublicKeyInfo) (lends : LendsKey pa
   ed_fits is size =
       let bits = ed_bits key.subject_public_key lends.unused parts.bits.now (kind_is kinds.Ed (names_ed parts.oid.now is)) lends.bits in
       (refl, record { bits = bits.0; is = bits.1; of = sym lends.oid ∙ is; payload = bits.2; size = size })
-
-  pub other_size : length parts.bits.now ≢ 32 → (alg : SigAlg) (bytes : List ℕ) → FitsKey Ed25519 key alg bytes → ⊥
-  other_size not alg bytes fits =
-      let bits = ed_bits key.subject_public_key lends.unused parts.bits.now (ap kind_of_key fits.1.is) lends.bits in
-      not (ap length (bits.2 ∙ ap payload_of (same_bits bits.0 fits.1.bits (sym bits.1 ∙ fits.1.is)) ∙ sym fits.1.payload) ∙ fits.1.size)

@@ -73,14 +73,6 @@ end_by_last pool end (i ∷ []) index e =
 end_by_last pool end (i ∷ j ∷ rest) index e =
     end_by_last pool (slice_get pool i) (j ∷ rest) index (end_by_place pool i j rest (suc (suc (length rest)) - 1) index (omega arith) e)
 
--- without a last index there is none
-pub end_by_none : (pool : List KeptCertificate) (end : Option KeptCertificate) (indices : List ℕ) → slice_get indices (length indices - 1) ≡ None → end_from pool end indices ≡ end
-end_by_none pool end [] e = refl
-end_by_none pool end (i ∷ indices) e =
-    let within : length (i ∷ indices) - 1 < length (i ∷ indices) = omega arith in
-    let some : slice_get (i ∷ indices) (length (i ∷ indices) - 1) ≡ Some (get_or (i ∷ indices) (length (i ∷ indices) - 1) 0) = slice_get-get_or (i ∷ indices) (length (i ∷ indices) - 1) 0 within in
-    absurd cc
-
 -- an index with a certificate is one of the pool
 pub within_pool : (pool : List KeptCertificate) (index : ℕ) → IsSome (slice_get pool index) → index < length pool
 within_pool pool index some = by (cases_lt index (length pool))

@@ -130,11 +130,6 @@ module _ (s : Sought) where
       by [] short = ([], Contains-push [] [], refl, up_to_itself [])
       by (i ∷ indices) short = absurd (omega (arith, short))
 
-  pub layer_begun : (number : ℕ) → IsLayerUpTo s number 0 []
-  layer_begun number = record {
-    sound = λ trail none. absurd (omega (arith, none.1));
-    complete = λ indices index less long trail. absurd (omega (arith, less));
-    few = omega arith;
   }
 
   -- every list is empty, or has a last member

@@ -28,11 +28,6 @@ module _ {A : Type 0} where
       later (inl found) = inl found
       later (inr (p, q)) = inr (omega (arith, p), q)
 
-  pub still_at : (items : List A) (last : A) (index : ℕ) (item : A) → slice_get items index ≡ Some item → slice_get (items ++ last ∷ []) index ≡ Some item
-  still_at [] last index item e = absurd (nothing_at index item e)
-  still_at (first ∷ items) last zero item e = e
-  still_at (first ∷ items) last (suc index) item e = still_at items last index item e
-
 module _ (judge : Judge) (history : History) (certificates : List KeptCertificate) (step : IssuingStep) (cert : KeptCertificate) (issued : IsIssued judge history certificates) (next : IsNext judge certificates step cert) where
   abbrev Steps : History
   Steps = history ++ step ∷ []

@@ -28,10 +28,6 @@ pub not_signed : (judge : Judge) (signs : Signs) (pair : Pair) (key : PrivateKey
 not_signed judge signs pair key algorithm info e (inl unwritten) = inl unwritten
 not_signed judge signs pair key algorithm info e (inr (written, unsigned)) = inr (written, inl unsigned)
 
-pub not_named : (judge : Judge) (signs : Signs) (pair : Pair) (key : PrivateKey) (algorithm : SignatureAlgorithm) (info : CertificationRequestInfo) (e : CsrError)
-    → IsInfoWritten info → IsInfoSigned signs key algorithm info → IsUnsigned (IsUnwritable algorithm) e → RefusesToMake (arithmetic judge signs pair) key algorithm info e
-not_named judge signs pair key algorithm info e written signed unnamed = inr (written, inr (signed, inl unnamed))
-
 -- the stored element of a written request contains the written CertificationRequestInfo
 pub written_info : (csr : KeptRequest) (r : CertificationRequest) → kept_request csr ≡ request r → csr.info ≡ request_info r.certification_request_info
 written_info csr r e = info_once csr.info (request_info r.certification_request_info) csr.request r e

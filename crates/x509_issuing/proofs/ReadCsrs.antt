@@ -28,13 +28,6 @@ read_value octets element (Err (errors.Malformed m)) der is refused = absurd ref
 read_value octets element (Err errors.TooDeep) der is refused = refused
 read_value octets element (Err errors.TooLong) der is refused = refused
 
--- a raw element that encodes a request contains its CertificationRequestInfo
-info_in : (element : DerElement) (r : CertificationRequest) → IsDer element → IsRequest element r → HasInfo element r
-info_in element r der is = (is.info, (is.is, subst IsDer is.is der, merely is.spelled))
-
-pub has_info : (element : DerElement) (r made : CertificationRequest) → IsDer element → IsRequest element r → made ≡ r → HasInfo element made
-has_info element r made der is same = subst (λ (x : CertificationRequest). HasInfo element x) (sym same) (info_in element r der is)
-
 pub same_csrs : (a b : KeptRequest) (x y : KeptElement) (t : Bool) → x.element ≡ kept_request a → y.element ≡ kept_request b → (IsTrue t ↔ (x ≡ y)) → IsTrue t ↔ (a ≡ b)
 same_csrs a b x y t px py test = (
   λ w. kept_once a b (sym px ∙ ap (λ (k : KeptElement). k.element) (test.0 w) ∙ py),

@@ -60,12 +60,6 @@ no_bits element algorithm key info is none e =
     let stands = bits_stand info.subject_public_key in
     none (stands.0 ∷ key_payload info.subject_public_key) (key_of element algorithm key info is e ∙ stands.1)
 
-pub no_count : (element algorithm key : DerElement) (contents : List ℕ) (info : SubjectPublicKeyInfo) → element ≡ sequence (algorithm ∷ key ∷ []) → key ≡ Primitive 0x03 contents → contents ≡ [] → element ≡ public_key_info info → ⊥
-no_count element algorithm key contents info is holds none e =
-    let stands = bits_stand info.subject_public_key in
-    let same : contents ≡ stands.0 ∷ key_payload info.subject_public_key = same_contents 0x03 contents (stands.0 ∷ key_payload info.subject_public_key) (sym holds ∙ key_of element algorithm key info is e ∙ stands.1) in
-    absurd cc
-
 pub bits_are : (key : SubjectKey) → bits_of (Some (subject_public_key key)) ≡ Some (key_payload key)
 bits_are (keys.Rsa key) = refl
 bits_are (keys.Ec bits) = refl

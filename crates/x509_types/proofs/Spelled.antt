@@ -71,20 +71,6 @@ all_fit f version serial signature issuer valid subject key extensions = (
   },
 )
 
--- the value of which three groups of elements encode the parts is encoded by all of them
-pub parts_join : (f : TbsElements) (by : IssuedBy) (to : IssuedTo) (added : AddedFields)
-    → IsIssuedBy f by → IsIssuedTo f to → AreAdded f added → AreTbsFields f (tbs_of_parts by to added)
-parts_join f by to added b t a = record {
-  version = b.version;
-  serial_number = b.serial_number;
-  signature = b.signature;
-  issuer = b.issuer;
-  validity = t.validity;
-  subject = t.subject;
-  subject_public_key_info = t.subject_public_key_info;
-  issuer_unique_id = a.issuer_unique_id;
-  subject_unique_id = a.subject_unique_id;
-  extensions = a.extensions;
 }
 
 -- if a part encodes nothing, the whole encodes nothing
