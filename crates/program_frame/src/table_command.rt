@@ -19,6 +19,7 @@ use std::alloc::{AllocError, Global};
 pub trait TableCommand {
     /// A command, and an answer, as contracts see them.
     ghost Asked: { Type 0 };
+
     ghost Answer: { Type 0 };
 
     /// The program.
