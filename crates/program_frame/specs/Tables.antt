@@ -1,10 +1,11 @@
 -- Programs whose answers follow from the verdict table among a command's files.
-use Rattle.std.specs.Prelude.{◌≡◌, ℕ, List, Option, Some}
+use Rattle.std.specs.Prelude.{◌≡◌, ℕ, List}
 use Rattle.sig_core.specs.VerdictTable.{IsTable, IsFirstBadLine, verdict_of}
 use Rattle.sig_core.specs.declared.algorithm.SigAlg.{SigAlg}
 use Rattle.sig_core.specs.declared.scheme.Verdict.{Verdict}
 use Rattle.sig_core.specs.declared.verdict_row.VerdictRow.{VerdictRow}
 use Rattle.program_frame.specs.Commands.{Line, Program}
+use Rattle.program_frame.specs.Reports.{Reporting}
 
 -- A program with a verdict table among the files of each command.
 pub record TableProgram (Command Answer : Type 0) : Type 1 where
@@ -17,17 +18,19 @@ pub record TableProgram (Command Answer : Type 0) : Type 1 where
   -- the answer on these contents, by verdicts
   pub IsAnswerTo : (SigAlg → List ℕ → List ℕ → List ℕ → Verdict) → Command
       → (contents : List (List ℕ)) → Answer → Type 0
-  -- the line that is an answer, if it is reported
-  pub line_of : Answer → Option Line
+  -- how answers are reported
+  pub reporting : Reporting Answer
 
--- The line is the answer on these contents, by the verdicts of the table.
+-- The line reports the answer on these contents, by the verdicts of the table. Out of memory isn't
+-- reported.
 pub record IsTableLine {Command Answer : Type 0} (program : TableProgram Command Answer)
     (command : Command) (contents : List (List ℕ)) (line : Line) : Type 0 where
   pub answer : Answer
   pub rows : List VerdictRow
   pub is_table : IsTable (program.table_in command contents) rows
   pub is_answer : program.IsAnswerTo (verdict_of rows) command contents answer
-  pub line_is : program.line_of answer ≡ Some line
+  pub reportable : program.reporting.IsOutOfMemory answer → ⊥
+  pub line_is : line ≡ program.reporting.line_of answer
 
 -- the table has a bad line
 abbrev pub HasBadTable : {Command Answer : Type 0} → TableProgram Command Answer → Command

@@ -45,7 +45,7 @@ pub trait TableCommand {
         table: &VerdictTable,
     ) -> Result<Report, Stop>
         requires { length (contents_held read.now) ≡ length (program.files_of (asked self.now)) }
-        ensures reported { Reports program.line_of (program.IsAnswerTo (verdict_of table.now)
+        ensures reported { Reports program.reporting (program.IsAnswerTo (verdict_of table.now)
             (asked self.now) (contents_held read.now)) result }
         ensures low { IfOk result (λ report. report.status ≤ statuses.refused) };
 }
