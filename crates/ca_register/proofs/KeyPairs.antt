@@ -38,7 +38,7 @@ use Rattle.key_core.specs.declared.private_key_value.PrivateKeyValue.{PrivateKey
 use Rattle.key_core.specs.declared.signature_algorithm.SignatureAlgorithm.TheVariants.{RsaPkcs1v15}
 use Rattle.ca_register.specs.LineKeys.{AreLineKeys, key_id_of, key_info_of, key_numbers, key_secret, rsa_key_of, with_null}
 use Rattle.ca_register.proofs.KeySecrets.{integer_formed, secret_der, demo_key_is}
-use Rattle.ca_register.proofs.Sizes.{light_short}
+use Rattle.der_core.proofs.Sizes.{light_short}
 
 -- which keys belong together, and what is signed, under the demonstration scheme
 abbrev pub demo_pair : Pair

@@ -36,7 +36,8 @@ use Rattle.key_core.specs.declared.signature_error.SignatureError.TheVariants as
 use Rattle.ca_register.specs.LineKeys.{AreLineKeys, key_info_of, key_secret, rsa_key_of}
 use Rattle.ca_register.proofs.KeyPairs.{half_of, info_is, is_der, is_encoded, rsa_is, signs_by_demo}
 use Rattle.ca_register.proofs.KeySecrets.{demo_key_is}
-use Rattle.ca_register.proofs.Sizes.{AreSmall, IsSmall, only_memory, size, within_size}
+use Rattle.der_core.specs.Size.{AreSmall, IsSmall, size}
+use Rattle.der_core.proofs.Sizes.{only_memory, within_size}
 
 key_size : (number : ℕ) → size (key_info_of number) ≤ 100
 key_size number = omega (arith, within_size (rsa_key_of number))

@@ -14,7 +14,7 @@ use Rattle.sig_core.proofs.DemoKeys.{rsa_key_is}
 use Rattle.key_core.specs.PrivatePkcs1.{IsRsaPrivateKey}
 use Rattle.key_core.proofs.RsaSecrets.{is_key}
 use Rattle.ca_register.specs.LineKeys.{key_numbers, key_secret, rsa_key_of}
-use Rattle.ca_register.proofs.Sizes.{light_short}
+use Rattle.der_core.proofs.Sizes.{light_short}
 
 not_empty : (first : ℕ) (rest : List ℕ) → IsInteger (first ∷ rest)
 not_empty first rest e = absurd cc

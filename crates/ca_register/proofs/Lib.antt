@@ -13,7 +13,6 @@ mod Deciding
 mod RecordSteps
 mod Issued
 mod Verdicts
-mod Sizes
 mod KeySecrets
 mod KeyPairs
 mod KeyRefusals
@@ -24,7 +23,6 @@ mod TbsSizes
 mod LineBuilds
 mod FirstRefusals
 mod Fillings
-mod Counts
 mod UsableCerts
 mod Answered
 pub mod Cuts

@@ -48,7 +48,7 @@ use Rattle.ca_register.specs.declared.entry.Grant.{Grant}
 use Rattle.ca_register.proofs.KeyPairs.{demo_scheme, signs_by_demo}
 use Rattle.ca_register.proofs.KeyRefusals.{half_or_memory, identifier_or_memory, signature_or_memory}
 use Rattle.ca_register.proofs.LineBuilders.{HasSubject, IsSetFor, subject_is}
-use Rattle.ca_register.proofs.Sizes.{only_memory}
+use Rattle.der_core.proofs.Sizes.{only_memory}
 use Rattle.ca_register.proofs.TbsSizes.{certificate_small, own, tbs_small}
 
 -- each step is refused for memory alone

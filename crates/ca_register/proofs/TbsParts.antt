@@ -33,7 +33,8 @@ use Rattle.ca_register.specs.Granting.{IsGranted}
 use Rattle.ca_register.specs.LineCertificates.{common_name}
 use Rattle.ca_register.specs.LineKeys.{key_id_of, key_info_of, rsa_key_of, with_null}
 use Rattle.ca_register.specs.declared.entry.Grant.{Grant}
-use Rattle.ca_register.proofs.Sizes.{IsSmall, size, within_size}
+use Rattle.der_core.specs.Size.{IsSmall, size}
+use Rattle.der_core.proofs.Sizes.{within_size}
 
 -- ---- the serial number
 

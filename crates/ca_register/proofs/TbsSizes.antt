@@ -37,7 +37,7 @@ use Rattle.ca_register.specs.LineKeys.{key_id_of, key_info_of, rsa_key_of, with_
 use Rattle.ca_register.proofs.KeyPairs.{demo_pair, half_of, info_is, keys_pair, rsa_is, signature_length}
 use Rattle.ca_register.proofs.LineBuilders.{IsOfLine, IsSetFor, authority_is, own_is, subject_is}
 use Rattle.ca_register.proofs.LineSubjects.{info_beside, keys_beside}
-use Rattle.ca_register.proofs.Sizes.{AreSmall, IsSmall, size}
+use Rattle.der_core.specs.Size.{AreSmall, IsSmall, size}
 use Rattle.ca_register.proofs.TbsParts.{algorithm_is, authority_identifier, authority_small, constraints_in, constraints_small, extensions_are, extensions_size, key_size, line_extensions, name_size, own_identifier, own_small, plain_flag, rsa_small, serial_length, validity_nested, validity_size, values_are}
 
 abbrev tbs_by : Option DerElement → List ℕ → DerElement → DerElement → DerElement → DerElement → DerElement → Option (List ℕ) → Option (List ℕ) → Option DerElement → DerElement

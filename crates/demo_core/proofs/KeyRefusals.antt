@@ -35,8 +35,8 @@ use Rattle.key_core.specs.declared.signature_error.SignatureError.{SignatureErro
 use Rattle.key_core.specs.declared.signature_error.SignatureError.TheVariants as signature_errors
 use Rattle.demo_core.specs.Certificates.{step_key, step_rsa_key}
 use Rattle.demo_core.specs.Secrets.{AreStepKeys, signs_by_demo, step_secret}
-use Rattle.demo_core.specs.Size.{AreSmall}
-use Rattle.demo_core.proofs.Sizes.{only_memory}
+use Rattle.der_core.specs.Size.{AreSmall}
+use Rattle.der_core.proofs.Sizes.{only_memory}
 use Rattle.demo_core.proofs.Smallness.{key_small, rsa_small}
 use Rattle.demo_core.proofs.StepKeys.{half_of, info_is, is_der, is_encoded, rsa_is}
 use Rattle.demo_core.proofs.StepSecrets.{step_key_is}

@@ -1,6 +1,5 @@
 mod Drawing
 mod StepOrder
-mod Sizes
 mod Smallness
 mod StepSecrets
 mod StepKeys
@@ -15,7 +14,6 @@ mod StepBuilders
 mod StepCerts
 mod Rereading
 mod StepHistories
-mod Counting
 mod Ancestors
 mod Whole
 mod OneReport

@@ -11,9 +11,9 @@ use Rattle.extension_types.specs.BasicConstraints.{basic_constraints, constraint
 use Rattle.demo_core.specs.Certificates.{authority_identifier, certificate_under, elements_under, own_identifier, signature_under, signer_of, small_contents, step_constraints, step_elements, step_extensions, step_key, step_name, step_rsa_key, step_tbs}
 use Rattle.demo_core.specs.Draws.{drawn, state_after}
 use Rattle.demo_core.specs.History.{demo_step, drawn_issuer}
-use Rattle.demo_core.specs.Size.{size, IsSmall, AreSmall}
+use Rattle.der_core.specs.Size.{size, IsSmall, AreSmall}
 use Rattle.demo_core.specs.declared.history.Step.{Step}
-use Rattle.demo_core.proofs.Sizes.{within_size}
+use Rattle.der_core.proofs.Sizes.{within_size}
 
 either : (test : Bool) (a b : List ℕ) → length a ≤ 2 → length b ≤ 2 → length (if test then a else b) ≤ 2
 either true a b p q = p

@@ -24,7 +24,7 @@ use Rattle.x509_issuing.specs.declared.builder.IssuerInfos.{IssuerInfos}
 use Rattle.demo_core.specs.Builders.{IsStepBuilder}
 use Rattle.demo_core.specs.Certificates.{authority_identifier, own_identifier, signature_under, signer_of, step_certificate, step_constraints, step_rsa_key, step_tbs, with_null}
 use Rattle.demo_core.specs.Secrets.{demo_pair}
-use Rattle.demo_core.specs.Size.{AreSmall}
+use Rattle.der_core.specs.Size.{AreSmall}
 use Rattle.demo_core.specs.declared.history.Step.{Step}
 use Rattle.demo_core.proofs.Smallness.{elements_small}
 use Rattle.demo_core.proofs.StepInner.{inner_is}

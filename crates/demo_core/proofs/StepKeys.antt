@@ -39,7 +39,7 @@ use Rattle.key_core.specs.declared.private_key_value.PrivateKeyValue.{PrivateKey
 use Rattle.key_core.specs.declared.signature_algorithm.SignatureAlgorithm.TheVariants.{RsaPkcs1v15}
 use Rattle.demo_core.specs.Certificates.{signature_under, step_key, step_key_id, step_rsa_key, with_null}
 use Rattle.demo_core.specs.Secrets.{AreStepKeys, demo_pair, step_modulus, step_numbers, step_secret}
-use Rattle.demo_core.proofs.Sizes.{light_short}
+use Rattle.der_core.proofs.Sizes.{light_short}
 use Rattle.demo_core.proofs.StepSecrets.{integer_formed, secret_der, step_key_is}
 
 abbrev numbers_of : RsaPrivateKey → RsaNumbers

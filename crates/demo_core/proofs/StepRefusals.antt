@@ -37,7 +37,7 @@ use Rattle.demo_core.specs.Certificates.{signer_of}
 use Rattle.demo_core.specs.Secrets.{demo_pair, signs_by_demo, step_secret}
 use Rattle.demo_core.specs.declared.history.Step.{Step}
 use Rattle.demo_core.proofs.KeyRefusals.{half_or_memory, identifier_or_memory, signature_or_memory}
-use Rattle.demo_core.proofs.Sizes.{only_memory}
+use Rattle.der_core.proofs.Sizes.{only_memory}
 use Rattle.demo_core.proofs.StepBuilding.{certificate_small, tbs_small}
 use Rattle.demo_core.proofs.StepTbs.{subject_is}
 

@@ -15,7 +15,7 @@ use Rattle.key_core.specs.PrivatePkcs1.{IsRsaPrivateKey}
 use Rattle.key_core.proofs.RsaSecrets.{is_key}
 use Rattle.demo_core.specs.Certificates.{step_rsa_key}
 use Rattle.demo_core.specs.Secrets.{step_modulus, step_numbers, step_secret}
-use Rattle.demo_core.proofs.Sizes.{light_short}
+use Rattle.der_core.proofs.Sizes.{light_short}
 
 not_empty : (first : ℕ) (rest : List ℕ) → IsInteger (first ∷ rest)
 not_empty first rest e = absurd cc
