@@ -13,9 +13,6 @@ mod Deciding
 mod RecordSteps
 mod Issued
 mod Verdicts
-mod KeySecrets
-mod KeyPairs
-mod KeyRefusals
 mod LineSubjects
 mod LineBuilders
 mod TbsParts

@@ -1,9 +1,6 @@
 mod Drawing
 mod StepOrder
 mod Smallness
-mod StepSecrets
-mod StepKeys
-mod KeyRefusals
 mod StepParts
 mod StepTbs
 mod StepInner

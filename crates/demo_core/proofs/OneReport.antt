@@ -1,5 +1,5 @@
 -- Demonstrations of as many steps report the same.
-use Rattle.std.proofs.Common.{◌≡◌, ℕ, zero, suc, List, [], ◌∷◌, length, inl, inr, refl, sym, ap₂, subst, ◌∙◌, arith}
+use Rattle.std.proofs.Common.{◌≡◌, ℕ, suc, List, [], ◌∷◌, length, refl, sym, ap₂, subst, ◌∙◌, arith}
 use Rattle.asn1_types.specs.Facts.Times.{same_generalized}
 use Rattle.asn1_types.specs.declared.generalized_time.GeneralizedTime.{GeneralizedTime}
 use Rattle.x509_core.specs.History.{History, IssuingStep, IsValidAt}

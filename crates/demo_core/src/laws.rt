@@ -46,7 +46,8 @@ ghost use Rattle.demo_core.specs.Demonstration.{IsDemonstration};
 ghost use Rattle.demo_core.specs.declared.demonstration.Demonstration.{Demonstration};
 ghost use Rattle.demo_core.specs.declared.history.Step.{Step};
 ghost use Rattle.demo_core.specs.History.{IsStepAt, demo_step};
-ghost use Rattle.demo_core.specs.Secrets.{AreStepKeys, demo_pair, signs_by_demo, step_secret};
+ghost use Rattle.key_core.specs.SmallKeys.{demo_pair, signs_by_demo};
+ghost use Rattle.demo_core.specs.Secrets.{AreStepKeys, step_secret};
 ghost use Rattle.der_core.specs.Size.{size, AreSmall};
 
 /// Each element that is written for a certificate of a demonstration is small.
