@@ -1,6 +1,6 @@
 //! Laws on encodings and faults.
 
-ghost use Rattle.std.specs.Prelude.{◌≡◌, ◌↔◌, ℕ, ◌<◌, List, Ok, Err, MatchResult};
+ghost use Rattle.std.specs.Prelude.{◌≡◌, ◌↔◌, ℕ, ◌<◌, List, Result, Ok, Err, MatchResult};
 ghost use Rattle.der_core.specs.Encoding.{encoding, nesting, IsDer, IsWellFormed, most_levels};
 ghost use Rattle.der_core.specs.Placed.{AreDer};
 ghost use Rattle.der_core.specs.Structure.{IsWithin};
@@ -8,6 +8,8 @@ ghost use Rattle.der_core.specs.Writing.{RefusesToWrite};
 ghost use Rattle.der_core.specs.Fault.{IsFirstFault};
 ghost use Rattle.der_core.specs.Head.{IsOctets, head_at, HasHead};
 ghost use Rattle.der_core.specs.Reading.{IsPrefixFree, HasNoFirst};
+ghost use Rattle.der_core.specs.Refusals.{RefusesOctets};
+ghost use Rattle.der_core.specs.declared.error.DerError.{DerError};
 ghost use Rattle.der_core.specs.declared.error.DerError.TheVariants as errors;
 ghost use Rattle.der_core.specs.declared.fault.DerFault.{DerFault};
 
@@ -62,4 +64,13 @@ pub fn values_are_their_octets<T: Structure>()
         → (encoding (T.written a) ≡ encoding (T.written b)) ↔ (a ≡ b) }
     ensures spelled { (value : T) → AreDer (T.inner value) → IsDer (T.written value)
         → IsWithin T.spells (encoding (T.written value)) value }
+{}
+
+/// Octets that encode a value are read as that value, or memory runs out: so says `answer` of
+/// [`Structure::from_der`].
+pub fn values_are_read_again<T: Structure>()
+    ensures { (octets : List ℕ) (value : T) (read : Result T DerError)
+        → IsWithin T.spells octets value
+        → MatchResult read (IsWithin T.spells octets) (RefusesOctets T.spells octets)
+        → MatchResult read (λ again. again ≡ value) (λ e. e ≡ errors.Memory) }
 {}
