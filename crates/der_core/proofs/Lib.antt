@@ -4,6 +4,7 @@ pub mod Begins
 pub mod Elements
 pub mod Faults
 pub mod Exact
+pub mod Rereading
 pub mod Decided
 pub mod DecidedValues
 pub mod Nesting

@@ -1,10 +1,23 @@
 //! Laws on encodings, their sizes, and faults.
 
-ghost use Rattle.std.specs.Prelude.{◌≡◌, ◌↔◌, ℕ, ◌<◌, ◌≤◌, ◌^◌, List, length, Ok, Err, MatchResult};
+ghost use Rattle.std.specs.Prelude.{
+  ◌≡◌,
+  ◌↔◌,
+  ℕ,
+  ◌<◌,
+  ◌≤◌,
+  ◌^◌,
+  List,
+  length,
+  Result,
+  Ok,
+  Err,
+  MatchResult,
+};
 ghost use Rattle.der_core.specs.DerElement.{DerElement};
 ghost use Rattle.der_core.specs.Encoding.{encoding, nesting, IsDer, IsShort, IsWellFormed, most_levels};
 ghost use Rattle.der_core.specs.Placed.{AreDer};
-ghost use Rattle.der_core.specs.Refusals.{RefusesInner};
+ghost use Rattle.der_core.specs.Refusals.{RefusesInner, RefusesOctets};
 ghost use Rattle.der_core.specs.Size.{size, AreSmall};
 ghost use Rattle.der_core.specs.Structure.{IsWithin};
 ghost use Rattle.der_core.specs.Writing.{RefusesToWrite};
@@ -74,4 +87,13 @@ pub fn values_are_their_octets<T: Structure>()
         → (encoding (T.written a) ≡ encoding (T.written b)) ↔ (a ≡ b) }
     ensures spelled { (value : T) → AreDer (T.inner value) → IsDer (T.written value)
         → IsWithin T.spells (encoding (T.written value)) value }
+{}
+
+/// Octets that encode a value are read as that value, or memory runs out: so says `answer` of
+/// [`Structure::from_der`].
+pub fn values_are_read_again<T: Structure>()
+    ensures { (octets : List ℕ) (value : T) (read : Result T DerError)
+        → IsWithin T.spells octets value
+        → MatchResult read (IsWithin T.spells octets) (RefusesOctets T.spells octets)
+        → MatchResult read (λ again. again ≡ value) (λ e. e ≡ errors.Memory) }
 {}
