@@ -1,19 +1,6 @@
 //! Laws on encodings, their sizes, and faults.
 
-ghost use Rattle.std.specs.Prelude.{
-  ◌≡◌,
-  ◌↔◌,
-  ℕ,
-  ◌<◌,
-  ◌≤◌,
-  ◌^◌,
-  List,
-  length,
-  Result,
-  Ok,
-  Err,
-  MatchResult,
-};
+ghost use Rattle.std.specs.Prelude.{◌≡◌, ◌↔◌, ℕ, ◌<◌, ◌≤◌, ◌^◌, List, length, Result, Ok, Err, MatchResult};
 ghost use Rattle.der_core.specs.DerElement.{DerElement};
 ghost use Rattle.der_core.specs.Encoding.{encoding, nesting, IsDer, IsShort, IsWellFormed, most_levels};
 ghost use Rattle.der_core.specs.Placed.{AreDer};
