@@ -25,7 +25,8 @@ spells_none : (kept : KeptCertificate) → ((c : Certificate) → IsCertificate 
 spells_none kept none = ∥∥₁_elim kept.spelled (λ x y. absurd x) (λ are. none kept.certificate (record { elements = kept.elements; is = refl; spelled = are }))
 
 -- octets of a certificate are refused only when out of memory
-pub refused_for_memory : (kept : KeptCertificate) (octets : List ℕ) (source : DerError) → kept_octets kept ≡ octets → RefusesOctets IsCertificate octets source → source ≡ der.Memory
+pub refused_for_memory : (kept : KeptCertificate) (octets : List ℕ) (source : DerError) → kept_octets kept ≡ octets → RefusesOctets IsCertificate octets source
+    → source ≡ der.Memory
 refused_for_memory kept octets (der.Malformed m) is refused =
     absurd (no_fault_where_whole octets (certificate_of kept.elements) m.at m.fault kept.der (sym is) refused)
 refused_for_memory kept octets der.Shape is refused =
@@ -47,7 +48,8 @@ same_certificates (x ∷ xs) (y ∷ ys) same =
     cc
 
 -- octets among those of certificates are a certificate's
-pub kept_among : (certificates : List KeptCertificate) (ahead : List (List ℕ)) (octets : List ℕ) (behind : List (List ℕ)) → map kept_octets certificates ≡ ahead ++ octets ∷ behind
+pub kept_among : (certificates : List KeptCertificate) (ahead : List (List ℕ)) (octets : List ℕ) (behind : List (List ℕ))
+    → map kept_octets certificates ≡ ahead ++ octets ∷ behind
     → (kept : KeptCertificate) × (kept_octets kept ≡ octets)
 kept_among [] [] octets behind same = absurd cc
 kept_among (kept ∷ certificates) [] octets behind same = (kept, cc)
@@ -55,7 +57,8 @@ kept_among [] (one ∷ ahead) octets behind same = absurd cc
 kept_among (kept ∷ certificates) (one ∷ ahead) octets behind same = kept_among certificates ahead octets behind (cc)
 
 -- if all are certificates, none is refused except for out of memory
-pub unread_for_memory : (octets : List (List ℕ)) (certificates : List KeptCertificate) (e : CertError) → AreKeptCertificates octets certificates → IsFirstUnread octets e → e ≡ errors.Memory
+pub unread_for_memory : (octets : List (List ℕ)) (certificates : List KeptCertificate) (e : CertError) → AreKeptCertificates octets certificates
+    → IsFirstUnread octets e → e ≡ errors.Memory
 unread_for_memory octets certificates e are h =
     let kept = kept_among certificates (map kept_octets h.read) h.unread h.others (are ∙ h.are) in
     h.refused.1 ∙ ap (unread elements.Certificate) (refused_for_memory kept.0 h.unread h.refused.0 kept.1 h.refused.2)
