@@ -217,5 +217,3 @@ module _ (judge : Judge) (f : SignedDataElements) (d : IndirectData) (g : Signer
 
   no_mismatch : (actual expected : List ℕ) → errors.Memory ≡ errors.HashMismatch actual expected → ⊥
   no_mismatch actual expected e = absurd cc
-
-  )

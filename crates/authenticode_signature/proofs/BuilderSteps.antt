@@ -121,10 +121,6 @@ module _ (b : AuthenticodeSignatureBuilder) (g : Given) (algorithm : HashAlgorit
       (subst (λ (o : List ℕ). RefusesBySteps errors.Memory (key_step signs (RsaPkcs1v15 algorithm) g.key (message_in b.authenticated_attributes o (map attribute (attributes_in b.authenticated_attributes))) ∷ []) e) written
       (refused (map attribute (attributes_in b.authenticated_attributes)) kept))
 
--- ---- the signature
-
-}
-
 -- ---- the steps of the builder
 
 later_untaken : (signs : Signs) (b : AuthenticodeSignatureBuilder) (g : Given) (e : AuthenticodeSignatureBuilderError) → HasGiven b g → IsFirstUntaken (steps_of signs b g) e

@@ -130,8 +130,6 @@ module _ (s : Sought) where
       by [] short = ([], Contains-push [] [], refl, up_to_itself [])
       by (i ∷ indices) short = absurd (omega (arith, short))
 
-  }
-
   -- every list is empty, or has a last member
   abbrev HasLast : List ℕ → Type 0
   HasLast indices = (before : List ℕ) × (last : ℕ) × (indices ≡ before ++ last ∷ [])
