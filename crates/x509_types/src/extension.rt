@@ -9,7 +9,7 @@ ghost use Rattle.x509_types.specs.ExtensionKind.{named_kind};
 ghost use Rattle.x509_types.specs.ExtensionView.{IsOfKind};
 ghost use Rattle.x509_types.specs.Facts.ExtensionViews.{IsOfKind-prop};
 
-mod fields;
+pub(crate) mod fields;
 pub(crate) mod first;
 pub(crate) mod kind;
 pub(crate) mod parts;
