@@ -1,5 +1,6 @@
 -- What a call does follows from a run over its files.
-use Rattle.std.proofs.Common.{◌≡◌, ◌⊎◌, ℕ, zero, suc, ◌==◌, ◌<◌, ◌≤◌, List, [], ◌∷◌, ◌++◌, length, Bool, true, false, Option, Some, None, IsSome, inl, inr, refl, sym, ◌∙◌, ap, subst, arith}
+use Rattle.std.proofs.Common.{◌≡◌, ◌⊎◌, ℕ, zero, suc, ◌==◌, ◌<◌, ◌≤◌, List, [], ◌∷◌, ◌++◌, length, Bool, true}
+use Rattle.std.proofs.Common.{false, Option, Some, None, IsSome, inl, inr, refl, sym, ◌∙◌, ap, subst, arith}
 use Rattle.std.specs.Prelude.{if◌then◌else◌}
 use Rattle.std.specs.Prelude.{Any}
 use Rattle.std.proofs.lemmas.Bool.{cases_lt}
@@ -72,10 +73,12 @@ module _ {Command S : Type 0} (program : Program Command) (words : List (List �
   answers : (command : Command) (line : Line) → AnswersRead program (state shelf) (state shelf_now) command line → IsAnswered program (Some files) command line
   answers command line h = of_files (λ (f : Option Files). IsAnswered program f command line) h.is_answered
 
-  reported : status ≤ 1 → ForCommand program words (λ command. IsAnswered program (Some files) command (record { status = status; text = handed_line status held }))
+  reported : status ≤ 1
+      → ForCommand program words (λ command. IsAnswered program (Some files) command (record { status = status; text = handed_line status held }))
   reported small =
       let h = run.reported small in
-      let text : h.line.text ≡ handed_line status held = same_some h.line.text held (sym (h.has_line [] sink_held) ∙ held_is) ∙ sym (line_low status held small) in
+      let text : h.line.text ≡ handed_line status held =
+      same_some h.line.text held (sym (h.has_line [] sink_held) ∙ held_is) ∙ sym (line_low status held small) in
       let is : h.line ≡ record { status = status; text = handed_line status held } = λ i. record { status = h.is_status i; text = text i } in
       (h.is_answer.0, h.is_answer.1, subst (IsAnswered program (Some files) h.is_answer.0) is (answers h.is_answer.0 h.line h.is_answer.2))
 
@@ -118,19 +121,20 @@ module _ {Command S : Type 0} (program : Program Command) (words : List (List �
 
   answered : (command : Command) (answer : Line) → program.AsksFor words command → IsAnswered program (Some files) command answer
       → (((status ≡ answer.status) × (handed_line status held ≡ answer.text)) ⊎ (status ≡ 7)) ⊎ ((status ≡ 5) × (room < length answer.text))
-  answered command answer some is = elim (run.answered command answer some is_quiet is_some (for_files (λ (f : Option Files). IsAnswered program f command answer) is)) [
-    | inl stands ↦ elim stands [
-      | inl reports ↦ inl (inl (reports.0, line_low status held reports.1 ∙ same_some held answer.text (sym held_is ∙ reports.2 [] sink_held)))
-      | inr memory ↦ inl (inr memory)
-    ]
-    | inr lost ↦ inr (
-      lost.0,
-      elim (cases_lt room (length answer.text)) [
-        | inl long ↦ long
-        | inr short ↦ absurd (lost.2 (room, sink_room, short))
-      ],
-    )
-  ]
+  answered command answer some is =
+      elim (run.answered command answer some is_quiet is_some (for_files (λ (f : Option Files). IsAnswered program f command answer) is)) [
+        | inl stands ↦ elim stands [
+          | inl reports ↦ inl (inl (reports.0, line_low status held reports.1 ∙ same_some held answer.text (sym held_is ∙ reports.2 [] sink_held)))
+          | inr memory ↦ inl (inr memory)
+        ]
+        | inr lost ↦ inr (
+          lost.0,
+          elim (cases_lt room (length answer.text)) [
+            | inl long ↦ long
+            | inr short ↦ absurd (lost.2 (room, sink_room, short))
+          ],
+        )
+      ]
 
   pub IsCall-run : (line : List ℕ) → line ≡ handed_line status held → IsCall program words files room line status
   IsCall-run line line_is = subst (λ (l : List ℕ). IsCall program words files room l status) (sym line_is) (record {

@@ -14,7 +14,13 @@ use Rattle.door_frame.proofs.Calls.{IsCall-run, within_room}
 
 unread : (shelf : LentShelf) (files : Files) → (lent_state shelf).files ≡ Some files → (lent_state shelf).rest ≡ Some [] → (lent_state shelf).given ≡ 0
     → (lent_state shelf).faults ≡ 0 → lent_state shelf ≡ unread_files files
-unread shelf files files_are rest_is given_is faults_are = λ i. record { files = files_are i; rest = rest_is i; given = given_is i; faults = faults_are i; is_quiet = Unit {0} }
+unread shelf files files_are rest_is given_is faults_are = λ i. record {
+  files = files_are i;
+  rest = rest_is i;
+  given = given_is i;
+  faults = faults_are i;
+  is_quiet = Unit {0};
+}
 
 empty : (out : MemSink) (room : ℕ) → sink_held out ≡ [] → sink_room out ≡ room → sink_faults out ≡ 0 → sink_state out ≡ empty_sink room
 empty out room held_is room_is faults_are = λ i. record { held = Some (held_is i); room = Some (room_is i); faults = faults_are i }
@@ -52,6 +58,7 @@ module _ (files : Files) (shelf : LentShelf) (files_are : (lent_state shelf).fil
       → ForShelf (λ now. Acceptance lines (unread_files files) now (Some []) (Some line))
   accepted Acceptance shelf_now held held_is held_now line words lines status words_are low line_is holds =
       of_new_shelf (λ before now. Acceptance lines before now (Some []) (Some line)) shelf_now
-      (subst (λ (l : List ℕ). Acceptance lines (lent_state shelf) (lent_state shelf_now) (Some []) (Some l)) (sym (line_is ∙ ap (λ s. handed_line s held_now) low))
+      (subst (λ (l : List ℕ). Acceptance lines (lent_state shelf) (lent_state shelf_now) (Some []) (Some l))
+      (sym (line_is ∙ ap (λ s. handed_line s held_now) low))
       (subst (λ (h : List ℕ). Acceptance lines (lent_state shelf) (lent_state shelf_now) (Some h) (Some held_now)) held_is
       (subst (λ (ws : List (List ℕ)). Acceptance ws (lent_state shelf) (lent_state shelf_now) (Some held) (Some held_now)) words_are holds)))

@@ -24,10 +24,13 @@ returns-clause-called g c =
     let held = ap (λ (h : List ℕ). handed_line c.run-status.result h) c.held.ensures in
     let called = is_call (lent_files c.args.files.now) c.new-shelf.result shelf.files shelf.nothing_left shelf.none_given shelf.no_faults
     g.P.Program.program (map string_bytes c.deref.result.now) (length c.args.line.now) c.run-status.new.shelf c.in-Ok-with_room.sink c.run-status.new.out
-    sink.empty sink.room sink.no_faults c.run-status.result c.run-status.ensures.ends (take c.hand_out.result.written c.hand_out.new.buffer) (c.hand_out.ensures.line ∙ held) in
+    sink.empty sink.room sink.no_faults c.run-status.result c.run-status.ensures.ends (take c.hand_out.result.written c.hand_out.new.buffer)
+    (c.hand_out.ensures.line ∙ held) in
     let words = ap (λ ws. map string_bytes ws) c.deref.ensures.value ∙ c.in-Ok.ensures in
-    subst (λ (ws : List (List ℕ)). IsCall g.P.Program.program ws (lent_files c.args.files.now) (length c.args.line.now) (take c.hand_out.result.written c.hand_out.new.buffer) c.hand_out.result.status) words
-    (subst (λ (status : ℕ). IsCall g.P.Program.program (map string_bytes c.deref.result.now) (lent_files c.args.files.now) (length c.args.line.now) (take c.hand_out.result.written c.hand_out.new.buffer) status)
+    subst (λ (ws : List (List ℕ)). IsCall g.P.Program.program ws (lent_files c.args.files.now) (length c.args.line.now)
+    (take c.hand_out.result.written c.hand_out.new.buffer) c.hand_out.result.status) words
+    (subst (λ (status : ℕ). IsCall g.P.Program.program (map string_bytes c.deref.result.now) (lent_files c.args.files.now) (length c.args.line.now)
+    (take c.hand_out.result.written c.hand_out.new.buffer) status)
     (sym c.hand_out.ensures.status) called)
 
 pub returns-clause-accepted : goal.returns-clause-accepted

@@ -9,8 +9,10 @@ returns-in-Some g c words is =
 
 pub returns-in-None : goal.returns-in-None
 returns-in-None g c words is =
-    IsRun-unasked g.C.Command.program words g.F.Shelf.state _ _ (none_held g.C.Command.program words g.C.Command.asked c.args.parsed.now c.in-Ok.found c.in-Ok.is c.in-None.is is)
+    IsRun-unasked g.C.Command.program words g.F.Shelf.state _ _
+    (none_held g.C.Command.program words g.C.Command.asked c.args.parsed.now c.in-Ok.found c.in-Ok.is c.in-None.is is)
 
 pub returns-in-Err : goal.returns-in-Err
 returns-in-Err g c words is =
-    IsRun-memory g.C.Command.program words g.F.Shelf.state _ _ (failed_held g.C.Command.program words g.C.Command.asked c.args.parsed.now c.in-Err.field-0 c.in-Err.is is)
+    IsRun-memory g.C.Command.program words g.F.Shelf.state _ _
+    (failed_held g.C.Command.program words g.C.Command.asked c.args.parsed.now c.in-Err.field-0 c.in-Err.is is)

@@ -1,74 +1,73 @@
 //! The report about the files that the words name.
 
-ghost use Rattle.std.specs.Prelude.{◌≡◌, map};
+ghost use Rattle.std.specs.Prelude.{◌≡◌, ◌≤◌, Result, length, map};
+ghost use Rattle.authenticode_core.specs.declared.accepted.Accepted.{Accepted};
 ghost use Rattle.program_frame.specs.Held.{contents_held, options_held};
-ghost use Rattle.pe_image.specs.Commands.{IsAnswerTo, question_of, table_in};
-ghost use Rattle.pe_image.specs.Jobs.{job_held};
+ghost use Rattle.program_frame.specs.Reports.{Reports};
+ghost use Rattle.pe_image.specs.Commands.{IsAnswerTo, checks};
+ghost use Rattle.pe_image.specs.HeldCommand.{command_held};
 ghost use Rattle.pe_image.specs.ListAnswer.{IsListAnswer, IsProgramAnswer};
 ghost use Rattle.pe_image.specs.ProgramPolicy.{program_policy};
-ghost use Rattle.pe_image.specs.Report.{Reports};
+ghost use Rattle.pe_image.specs.Report.{reporting};
+ghost use Rattle.pe_image.specs.Words.{Command as AskedCommand};
+ghost use Rattle.pe_image.specs.declared.error.PeCheckError.{PeCheckError};
 
 use crate::check::check_pe;
 use crate::error::PeCheckError;
 use crate::policy::program_policy;
 use crate::report::report_of;
-use crate::words::Job;
+use crate::words::Command;
 use authenticode_core::{AuthenticodeError, CertificateTrustList, CheckError, Policy};
 use names_core::UtcDate;
-use program_frame::{CheckOptions, Contents, KnownTable, Names, Report, Stop, Task, find_table};
-use sig_core::Scheme;
+use program_frame::{CheckOptions, Contents, Names, Report, Stop, TableCommand};
+use sig_core::{Scheme, VerdictTable};
 use std::alloc::Global;
+use std::slice;
 
-/// A job, and a verdict table that is known before the files are read.
-#[derive(Drop)]
-pub(crate) struct Inquiry<'a> {
-    pub(crate) job: Job<'a>,
-    pub(crate) known: Option<&'a KnownTable>,
-}
+impl TableCommand for Command<'_> {
+    ghost Asked = { AskedCommand };
 
-impl Task for Inquiry<'_> {
-    ghost question = { λ inquiry. question_of (job_held inquiry.job) };
+    ghost Answer = { Result Accepted PeCheckError };
+
+    ghost program = { checks };
+
+    ghost asked = { command_held };
 
     fn names(&self) -> Names<'_> {
         Names {
-            first: self.job.file,
-            second: self.job.table,
-            others: self.job.options.list_file(),
+            first: self.file,
+            others: slice::from_ref(self.table),
+            last: self.options.list_file(),
         }
     }
 
-    // The verdict table among the files has the verdicts.
-    fn report(&self, alloc: Global, read: &Contents) -> Result<Report, Stop> {
-        let table = find_table(alloc, self.known, table_in(read))?;
-        report_by(alloc, &self.job, read, table.as_table())
+    fn table_in<'a>(&self, read: &'a Contents) -> &'a [u8] {
+        read.parts().1
+    }
+
+    fn report_by(
+        &self,
+        alloc: Global,
+        read: &Contents,
+        table: &VerdictTable,
+    ) -> Result<Report, Stop> {
+        report_by(alloc, self, read, table)
     }
 }
 
-/// The text of the verdict table, among the contents of the files.
-fn table_in(read: &Contents) -> &[u8]
-    ensures { result.now ≡ table_in (contents_held read.now) }
-{
-    &read.second
-}
-
-/// The report on the contents of a job's files, by a scheme.
+/// The report on the contents of a command's files, by a scheme.
 fn report_by<S: Scheme>(
     alloc: Global,
-    asked: &Job<'_>,
+    asked: &Command<'_>,
     read: &Contents,
     scheme: &S,
 ) -> Result<Report, Stop>
-    ensures { Reports
-        (IsAnswerTo (S.judge scheme.now) (job_held asked.now) (contents_held read.now)) result }
+    requires { 2 ≤ length (contents_held read.now) }
+    ensures { Reports reporting (IsAnswerTo (S.judge scheme.now) (command_held asked.now)
+        (contents_held read.now)) result }
 {
-    listed_report(
-        alloc,
-        &read.first,
-        &read.others,
-        asked.date,
-        &asked.options,
-        scheme,
-    )
+    let (program, _, lists) = read.parts();
+    listed_report(alloc, program, lists, asked.date, &asked.options, scheme)
 }
 
 /// The report on the octets of a program, by a scheme and the options, the octets of whose trust
@@ -81,7 +80,7 @@ fn listed_report<S: Scheme>(
     options: &CheckOptions<'_>,
     scheme: &S,
 ) -> Result<Report, Stop>
-    ensures { Reports (IsListAnswer (S.judge scheme.now) (program_policy date (options_held options.now))
+    ensures { Reports reporting (IsListAnswer (S.judge scheme.now) (program_policy date (options_held options.now))
         octets.now (map (λ octets. octets.items) lists.now)) result }
 {
     let [list, ..] = lists else {
@@ -106,7 +105,7 @@ fn judge_program<S: Scheme>(
     policy: Policy<'_>,
     scheme: &S,
 ) -> Result<Report, Stop>
-    ensures { Reports (IsProgramAnswer (S.judge scheme.now) policy.entry octets.now) result }
+    ensures { Reports reporting (IsProgramAnswer (S.judge scheme.now) policy.entry octets.now) result }
 {
     let answer = check_pe(alloc, octets, policy, scheme);
     report_of(alloc, &answer)

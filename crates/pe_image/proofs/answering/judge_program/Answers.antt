@@ -1,5 +1,5 @@
 use Rattle.pe_image.proofs.Reported.{program_reported}
-use Rattle.pe_image.proofs.inquiry.judge_program.Goals as goal
+use Rattle.pe_image.proofs.answering.judge_program.Goals as goal
 
 pub returns : goal.returns
 returns g c =
