@@ -21,3 +21,5 @@ pub mod Values
 pub mod RuleLists
 pub mod TakenSteps
 pub mod Digits
+pub mod Sizes
+pub mod Counting

@@ -36,9 +36,3 @@ behind : (element : DerElement) (kids rest : List DerElement) (ca : Option Bool)
 behind element kids rest ca b holds takes is =
     (split 0x01 takes.flag is.flag rest (optional_integer b.pathlen) (optional_field takes.flag ca takes.is) (optional_field is.flag b.ca is.flagged) takes.once (λ e. no_flag b.pathlen)
     (sym takes.are ∙ same_fields kids (is.flag ++ optional_integer b.pathlen) (sym holds ∙ is.is))).1
-
-}
-  where
-    nothing_behind : (number : Option ℕ) → optional_integer number ++ [] ≡ optional_integer number
-    nothing_behind None = refl
-    nothing_behind (Some n) = refl

@@ -18,7 +18,7 @@ use Rattle.key_core.specs.PublicHalf.{IsPublicHalf}
 use Rattle.key_core.specs.declared.private_key_value.PrivateKeyValue.{PrivateKeyValue}
 use Rattle.key_core.specs.declared.private_key_value.PrivateKeyValue.TheVariants as values
 
-abbrev numbers_of : RsaPrivateKey → RsaNumbers
+abbrev pub numbers_of : RsaPrivateKey → RsaNumbers
 numbers_of key = record {
   modulus = integer_contents key.n;
   public_exponent = integer_contents key.e;
