@@ -8,7 +8,7 @@ ghost use Rattle.asn1_types.specs.declared.oids.TheConstants.{CE_SUBJECT_KEY_IDE
 ghost use Rattle.x509_types.specs.ExtensionView.{named_kind, IsOfKind};
 ghost use Rattle.x509_types.specs.Facts.ExtensionViews.{IsOfKind-prop};
 
-mod fields;
+pub(crate) mod fields;
 pub(crate) mod first;
 pub(crate) mod parts;
 pub(crate) mod purposes;

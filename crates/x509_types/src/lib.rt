@@ -17,6 +17,7 @@ pub use certificate::tbs_certificate::TbsCertificate;
 pub use certificate::validity::Validity;
 pub use certificate::version::Version;
 pub use certificate::view::CertView;
+pub use extension::fields::ExtensionFields;
 pub use extension::view::{ExtensionKind, ExtensionView};
 pub use extension::{Extension, Extensions};
 pub use extension_types::{

@@ -28,7 +28,7 @@ use der_core::{Elem, Kids, leaf_at};
 
 /// The fields of an Extension: its OID as any element, its flag, and the octets of its value.
 #[derive(Clone, Copy)]
-pub(crate) struct ExtensionFields<'a> {
+pub struct ExtensionFields<'a> {
     pub oid: Elem<'a>,
     pub critical: bool,
     pub value: &'a [u8],
