@@ -11,9 +11,6 @@ use Rattle.extension_types.specs.KeyUsage.{key_usage}
 use Rattle.extension_types.specs.BasicConstraints.{basic_constraints, IsBasicConstraints}
 use Rattle.extension_types.specs.AuthorityKeyIdentifier.{authority_key_identifier}
 use Rattle.extension_types.specs.ExtendedKeyUsage.{extended_key_usage}
-use Rattle.extension_types.specs.declared.key_usage.KeyUsage.{KeyUsage}
-use Rattle.extension_types.specs.declared.authority_key_identifier.AuthorityKeyIdentifier.{AuthorityKeyIdentifier}
-use Rattle.extension_types.specs.declared.extended_key_usage.ExtendedKeyUsage.{ExtendedKeyUsage}
 use Rattle.name_types.specs.GeneralName.{general_names, AreGeneralNames}
 use Rattle.name_types.specs.declared.general_name.RawGeneralName.{RawGeneralName}
 use Rattle.x509_types.specs.declared.extension.view.ExtensionKind.{ExtensionKind}

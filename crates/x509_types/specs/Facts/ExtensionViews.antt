@@ -24,9 +24,6 @@ use Rattle.extension_types.specs.Facts.Constraints.{all_basic_constraints, const
 use Rattle.extension_types.specs.Facts.Usages.{key_usages, extended_key_usages}
 use Rattle.extension_types.specs.Facts.AuthorityKeys.{authority_key_identifiers}
 use Rattle.extension_types.specs.declared.basic_constraints.BasicConstraints.{BasicConstraints}
-use Rattle.extension_types.specs.declared.key_usage.KeyUsage.{KeyUsage}
-use Rattle.extension_types.specs.declared.authority_key_identifier.AuthorityKeyIdentifier.{AuthorityKeyIdentifier}
-use Rattle.extension_types.specs.declared.extended_key_usage.ExtendedKeyUsage.{ExtendedKeyUsage}
 use Rattle.name_types.specs.GeneralName.{general_names, AreGeneralNames}
 use Rattle.name_types.specs.Facts.GeneralNames.{general_name_lists}
 use Rattle.name_types.specs.declared.general_name.RawGeneralName.{RawGeneralName}
