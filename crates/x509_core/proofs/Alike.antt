@@ -1,25 +1,21 @@
 -- The elements of a certificate and its value agree about its key.
-use Rattle.std.proofs.Common.{◌≡◌, ℕ, List, refl, sym, subst, ◌∙◌}
+use Rattle.std.proofs.Common.{ℕ, List, refl, sym, subst, ◌∙◌}
 use Rattle.std.specs.Prelude.{Bool}
 use Rattle.der_core.specs.DerElement.{DerElement}
 use Rattle.der_core.specs.Kept.{IsKept}
-use Rattle.der_core.specs.Structure.{IsWithin}
 use Rattle.asn1_types.specs.declared.oids.TheConstants.{CE_SUBJECT_KEY_IDENTIFIER, CE_BASIC_CONSTRAINTS, CE_AUTHORITY_KEY_IDENTIFIER}
-use Rattle.extension_types.specs.AuthorityKeyIdentifier.{authority_key_identifier}
 use Rattle.extension_types.specs.BasicConstraints.{IsBasicConstraints}
-use Rattle.extension_types.specs.declared.authority_key_identifier.AuthorityKeyIdentifier.{AuthorityKeyIdentifier}
 use Rattle.extension_types.specs.declared.basic_constraints.BasicConstraints.{BasicConstraints}
 use Rattle.x509_types.specs.CertificateElements.{CertificateElements, AreCertificateFields}
-use Rattle.x509_types.specs.ExtensionKind.{named_kind}
 use Rattle.x509_types.specs.ExtensionParts.{HasCa, HasPathLength, HasSubjectKey, HasAuthorityKey}
-use Rattle.x509_types.specs.ExtensionView.{IsOfKind, IsValueIn}
-use Rattle.x509_types.specs.Facts.ExtensionViews.{values_once}
+use Rattle.x509_types.specs.ExtensionView.{named_kind, IsOfKind, IsValueIn}
+use Rattle.x509_types.specs.Facts.ExtensionViews.{holds_of, values_once}
 use Rattle.x509_types.specs.FirstExtension.{extensions_of, IsFirstValue}
 use Rattle.x509_types.specs.FirstOfValue.{extensions_in, IsFirstWith}
 use Rattle.x509_types.specs.declared.certificate.Certificate.{Certificate}
 use Rattle.x509_types.specs.declared.extension.Extension.{Extension}
-use Rattle.x509_types.specs.declared.extension.kind.ExtensionKind.{ExtensionKind}
-use Rattle.x509_types.specs.declared.extension.kind.ExtensionKind.TheVariants as kinds
+use Rattle.x509_types.specs.declared.extension.view.ExtensionKind.{ExtensionKind}
+use Rattle.x509_types.specs.declared.extension.view.ExtensionKind.TheVariants as kinds
 use Rattle.x509_types.specs.declared.extension.view.ExtensionView.{ExtensionView}
 use Rattle.x509_types.specs.declared.extension.view.ExtensionView.TheVariants as views
 use Rattle.der_core.specs.Facts.Kept.{one_kept}
@@ -78,22 +74,10 @@ subject_lies f c key are h =
 
 -- ---- the authority key identifier
 
--- the value of the kind
-key_in : (octets : List ℕ) (view : ExtensionView) → IsOfKind kinds.AuthorityKeyIdentifier view → IsValueIn octets view
-    → (a : AuthorityKeyIdentifier) × (view ≡ views.AuthorityKeyIdentifier a) × IsWithin (λ (element : DerElement) (x : AuthorityKeyIdentifier). element ≡ authority_key_identifier x) octets a
-key_in octets (views.SubjectKeyIdentifier x) kind value = absurd cc
-key_in octets (views.KeyUsage x) kind value = absurd cc
-key_in octets (views.SubjectAltName x) kind value = absurd cc
-key_in octets (views.IssuerAltName x) kind value = absurd cc
-key_in octets (views.BasicConstraints x) kind value = absurd cc
-key_in octets (views.AuthorityKeyIdentifier x) kind value = (x, refl, value)
-key_in octets (views.ExtendedKeyUsage x) kind value = absurd cc
-key_in octets (views.Raw x) kind value = absurd kind
-
 authority_had : (f : CertificateElements) (c : Certificate) (key : List ℕ) → AreCertificateFields f c → HasAuthorityKey f key → NamesKey (extensions_in c.tbs_certificate.extensions) key
 authority_had f c key are says =
     let h = held CE_AUTHORITY_KEY_IDENTIFIER.now f c says.0 are says.1 in
-    let v = key_in says.1.octets h.extension.extn_value h.of_kind h.value in
+    let v = holds_of kinds.AuthorityKeyIdentifier says.1.octets h.extension.extn_value (h.of_kind, h.value) in
     let same = one_kept says.1.octets says.0 v.2.element says.1.holds (v.2.der, v.2.encoded) in
     record {
       value = v.0;
@@ -109,16 +93,6 @@ authority_lies f c key are names =
 
 -- ---- basic constraints
 
-constraints_in : (octets : List ℕ) (view : ExtensionView) → IsOfKind kinds.BasicConstraints view → IsValueIn octets view → (b : BasicConstraints) × (view ≡ views.BasicConstraints b) × IsWithin IsBasicConstraints octets b
-constraints_in octets (views.SubjectKeyIdentifier x) kind value = absurd cc
-constraints_in octets (views.KeyUsage x) kind value = absurd cc
-constraints_in octets (views.SubjectAltName x) kind value = absurd cc
-constraints_in octets (views.IssuerAltName x) kind value = absurd cc
-constraints_in octets (views.BasicConstraints x) kind value = (x, refl, value)
-constraints_in octets (views.AuthorityKeyIdentifier x) kind value = absurd cc
-constraints_in octets (views.ExtendedKeyUsage x) kind value = absurd cc
-constraints_in octets (views.Raw x) kind value = absurd kind
-
 -- The first basic constraints of the elements encode the first ones of the value.
 record HadConstraints (extensions : List Extension) (element : DerElement) : Type 0 where
   value : BasicConstraints
@@ -128,7 +102,7 @@ record HadConstraints (extensions : List Extension) (element : DerElement) : Typ
 had_constraints : (f : CertificateElements) (c : Certificate) (element : DerElement) → AreCertificateFields f c → IsFirstValue f CE_BASIC_CONSTRAINTS.now element → HadConstraints (extensions_in c.tbs_certificate.extensions) element
 had_constraints f c element are v =
     let h = held CE_BASIC_CONSTRAINTS.now f c element are v in
-    let b = constraints_in v.octets h.extension.extn_value h.of_kind h.value in
+    let b = holds_of kinds.BasicConstraints v.octets h.extension.extn_value (h.of_kind, h.value) in
     let same = one_kept v.octets element b.2.element v.holds (b.2.der, b.2.encoded) in
     record {
       value = b.0;

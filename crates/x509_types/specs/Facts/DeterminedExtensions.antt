@@ -8,14 +8,11 @@ use Rattle.der_core.specs.Encoding.{encoding}
 use Rattle.der_core.specs.Each.{list_element}
 use Rattle.der_core.specs.Facts.Equality.{same_tests}
 use Rattle.der_core.specs.Facts.Grammars.{same_fields}
-use Rattle.x509_types.specs.ExtensionKind.{extension_kind_number}
-use Rattle.x509_types.specs.ExtensionView.{kind_of_view}
+use Rattle.x509_types.specs.ExtensionView.{extension_kind_number, kind_of_view}
 use Rattle.x509_types.specs.Extension.{extension, value_kinds}
-use Rattle.x509_types.specs.Facts.ExtensionKinds.{kinds_by_number}
+use Rattle.x509_types.specs.Facts.ExtensionViews.{kinds_by_number, small_kind}
 use Rattle.x509_types.specs.Facts.Extensions.{extensions_determined}
 use Rattle.x509_types.specs.declared.extension.Extension.{Extension}
-use Rattle.x509_types.specs.declared.extension.kind.ExtensionKind.{ExtensionKind}
-use Rattle.x509_types.specs.declared.extension.kind.ExtensionKind.TheVariants as kinds
 
 -- ---- extensions by their kinds and elements
 
@@ -46,16 +43,6 @@ options_determined (Some x) (Some y) k e =
 abbrev pub AreSmall : List ℕ → Type 0
 AreSmall [] = ⊤
 AreSmall (k ∷ ks) = (k < 48) × AreSmall ks
-
-small_kind : (kind : ExtensionKind) → extension_kind_number kind < 48
-small_kind kinds.SubjectKeyIdentifier = omega arith
-small_kind kinds.KeyUsage = omega arith
-small_kind kinds.SubjectAltName = omega arith
-small_kind kinds.IssuerAltName = omega arith
-small_kind kinds.BasicConstraints = omega arith
-small_kind kinds.AuthorityKeyIdentifier = omega arith
-small_kind kinds.ExtendedKeyUsage = omega arith
-small_kind kinds.Other = omega arith
 
 pub small_list : (es : List Extension) → AreSmall (map number_of es)
 small_list [] = tt

@@ -15,14 +15,12 @@ use Rattle.asn1_types.specs.Facts.Elements.{identifiers, same_identifier}
 use Rattle.asn1_types.specs.declared.oid.ObjectIdentifier.{ObjectIdentifier}
 use Rattle.der_core.specs.Default.{default_false}
 use Rattle.x509_types.specs.ExtensionFields.{IsExtensionOf}
-use Rattle.x509_types.specs.ExtensionKind.{extension_kind_number, named_kind}
-use Rattle.x509_types.specs.ExtensionView.{kind_of_view, value_octets, inner_value, IsOfKind, IsValueIn}
+use Rattle.x509_types.specs.ExtensionView.{named_kind, extension_kind_number, kind_of_view, value_octets, inner_value, IsOfKind, IsValueIn}
 use Rattle.x509_types.specs.Extension.{extension, extension_octets, IsExtension}
 use Rattle.der_core.specs.Facts.Grammars.{same_fields}
 use Rattle.der_core.specs.Facts.Fields.{split}
 use Rattle.extension_types.specs.Facts.Constraints.{default_is, default_field, default_once}
-use Rattle.x509_types.specs.Facts.ExtensionKinds.{kinds_by_number}
-use Rattle.x509_types.specs.Facts.ExtensionViews.{IsOfKind-prop, values_once, values_by_octets, values_bounded, values_written}
+use Rattle.x509_types.specs.Facts.ExtensionViews.{kinds_by_number, IsOfKind-prop, values_once, values_by_octets, values_bounded, values_written}
 use Rattle.x509_types.specs.declared.extension.Extension.{Extension}
 use Rattle.x509_types.specs.declared.extension.view.ExtensionView.{ExtensionView}
 
