@@ -29,7 +29,8 @@ use Rattle.x509_types.specs.declared.extension.Extension.{Extension}
 use Rattle.x509_types.specs.declared.extension.view.ExtensionView.{ExtensionView}
 use Rattle.x509_types.specs.declared.extension.view.ExtensionView.TheVariants as views
 
-flag_stands : (element oid : DerElement) (critical : Bool) (octets : List ℕ) (flag : List DerElement) → element ≡ sequence (oid ∷ (flag ++ Primitive 0x04 octets ∷ [])) → IsDefaultFalse flag critical
+flag_stands : (element oid : DerElement) (critical : Bool) (octets : List ℕ) (flag : List DerElement)
+    → element ≡ sequence (oid ∷ (flag ++ Primitive 0x04 octets ∷ [])) → IsDefaultFalse flag critical
     → (flag ≡ default_false critical) ⊎ HasOtherFlag element oid critical octets
 flag_stands element oid critical octets [] is flagged = inl (subst (λ (b : Bool). [] ≡ default_false b) (sym flagged) refl)
 flag_stands element oid critical octets (kid ∷ []) is flagged =
@@ -44,7 +45,8 @@ flag_stands element oid critical octets (kid ∷ []) is flagged =
     ]
 flag_stands element oid critical octets (kid ∷ more ∷ kids) is flagged = absurd flagged
 
-constraints_stand : (octets : List ℕ) (view : ExtensionView) (b : BasicConstraints) → view ≡ views.BasicConstraints b → IsWithin IsBasicConstraints octets b → (octets ≡ value_octets view) ⊎ HasOtherConstraints octets view
+constraints_stand : (octets : List ℕ) (view : ExtensionView) (b : BasicConstraints) → view ≡ views.BasicConstraints b → IsWithin IsBasicConstraints octets b
+    → (octets ≡ value_octets view) ⊎ HasOtherConstraints octets view
 constraints_stand octets view b valued within =
     elim (constraints_spelled within.element b within.spelled) [
       | inl same ↦ inl (within.encoded ∙ ap encoding same ∙ ap value_octets (sym valued))
@@ -77,7 +79,8 @@ each_spelling (element ∷ elements) (e ∷ es) each = (extension_spelling eleme
 pub list_spelling : (element : DerElement) (es : List Extension) → IsExtensions element es → IsListOf 0x30 IsSpelling element es
 list_spelling element es is = record { kids = is.kids; holds = is.holds; each = each_spelling is.kids es is.each }
 
-each_list : (elements : List DerElement) (lists : List (List Extension)) → AreEach IsExtensions elements lists → AreEach (IsListOf 0x30 IsSpelling) elements lists
+each_list : (elements : List DerElement) (lists : List (List Extension)) → AreEach IsExtensions elements lists
+    → AreEach (IsListOf 0x30 IsSpelling) elements lists
 each_list [] [] each = tt
 each_list [] (es ∷ lists) each = absurd each
 each_list (element ∷ elements) [] each = absurd each

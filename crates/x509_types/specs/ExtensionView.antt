@@ -1,7 +1,8 @@
 -- The kinds of extensions, by OID, and their values, wrapped in an OCTET STRING (RFC 5280 4.1,
 -- 4.2.1).
 use Rattle.std.specs.Prelude.{◌≡◌, ⊤, ℕ, List, [], ◌∷◌, if◌then◌else◌, bytes_eq}
-use Rattle.asn1_types.specs.declared.oids.TheConstants.{CE_SUBJECT_KEY_IDENTIFIER, CE_KEY_USAGE, CE_SUBJECT_ALT_NAME, CE_ISSUER_ALT_NAME, CE_BASIC_CONSTRAINTS, CE_AUTHORITY_KEY_IDENTIFIER, CE_EXT_KEY_USAGE}
+use Rattle.asn1_types.specs.declared.oids.TheConstants.{CE_SUBJECT_KEY_IDENTIFIER, CE_KEY_USAGE, CE_SUBJECT_ALT_NAME, CE_ISSUER_ALT_NAME}
+use Rattle.asn1_types.specs.declared.oids.TheConstants.{CE_BASIC_CONSTRAINTS, CE_AUTHORITY_KEY_IDENTIFIER, CE_EXT_KEY_USAGE}
 use Rattle.der_core.specs.Each.{Prints}
 use Rattle.der_core.specs.DerElement.{DerElement}
 use Rattle.der_core.specs.Elements.{octet_string}

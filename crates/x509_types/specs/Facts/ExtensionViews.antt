@@ -27,7 +27,8 @@ use Rattle.extension_types.specs.declared.basic_constraints.BasicConstraints.{Ba
 use Rattle.name_types.specs.GeneralName.{general_names, AreGeneralNames}
 use Rattle.name_types.specs.Facts.GeneralNames.{general_name_lists}
 use Rattle.name_types.specs.declared.general_name.RawGeneralName.{RawGeneralName}
-use Rattle.x509_types.specs.ExtensionView.{extension_kind_number, kind_of_view, key_identifier, value_octets, inner_value, view_octets, IsValueIn, HoldsNoNames, MayBeKept, IsOfKind, IsValueOf}
+use Rattle.x509_types.specs.ExtensionView.{extension_kind_number, kind_of_view, key_identifier, value_octets, inner_value}
+use Rattle.x509_types.specs.ExtensionView.{view_octets, IsValueIn, HoldsNoNames, MayBeKept, IsOfKind, IsValueOf}
 use Rattle.x509_types.specs.declared.extension.view.ExtensionKind.{ExtensionKind}
 use Rattle.x509_types.specs.declared.extension.view.ExtensionKind.TheVariants as kinds
 use Rattle.x509_types.specs.declared.extension.view.ExtensionView.{ExtensionView}
@@ -80,7 +81,8 @@ small_kind kinds.Other = omega arith
 
 -- ---- values within octets
 
-printed_once : {X : Type 0} (written : X → DerElement) → IsGrammar (Prints written) written (λ x. []) → (a b : X) → encoding (written a) ≡ encoding (written b) → a ≡ b
+printed_once : {X : Type 0} (written : X → DerElement) → IsGrammar (Prints written) written (λ x. []) → (a b : X)
+    → encoding (written a) ≡ encoding (written b) → a ≡ b
 printed_once written grammar = encoded_once written (λ a b e. grammar.once (written a) a b refl e) grammar.formed
 
 -- ---- that values are of their kinds has at most one proof
@@ -153,11 +155,13 @@ names_once named octets a b (inr p) (inl q) = absurd (p.1 q.0 q.2)
 names_once named octets a b (inr p) (inr q) = p.0 ∙ sym q.0
 
 holds_once : (kind : ExtensionKind) (octets : List ℕ) (a b : ExtensionView) → HoldsOf kind octets a → HoldsOf kind octets b → a ≡ b
-holds_once kinds.SubjectKeyIdentifier octets a b p q = p.1 ∙ ap views.SubjectKeyIdentifier (within_once (Prints key_identifier) octet_strings.once octets p.0 q.0 p.2 q.2) ∙ sym q.1
+holds_once kinds.SubjectKeyIdentifier octets a b p q =
+    p.1 ∙ ap views.SubjectKeyIdentifier (within_once (Prints key_identifier) octet_strings.once octets p.0 q.0 p.2 q.2) ∙ sym q.1
 holds_once kinds.KeyUsage octets a b p q = p.1 ∙ ap views.KeyUsage (within_once (Prints key_usage) key_usages.once octets p.0 q.0 p.2 q.2) ∙ sym q.1
 holds_once kinds.SubjectAltName octets a b p q = names_once views.SubjectAltName octets a b p q
 holds_once kinds.IssuerAltName octets a b p q = names_once views.IssuerAltName octets a b p q
-holds_once kinds.BasicConstraints octets a b p q = p.1 ∙ ap views.BasicConstraints (within_once IsBasicConstraints all_basic_constraints.once octets p.0 q.0 p.2 q.2) ∙ sym q.1
+holds_once kinds.BasicConstraints octets a b p q =
+    p.1 ∙ ap views.BasicConstraints (within_once IsBasicConstraints all_basic_constraints.once octets p.0 q.0 p.2 q.2) ∙ sym q.1
 holds_once kinds.AuthorityKeyIdentifier octets a b p q =
     p.1 ∙ ap views.AuthorityKeyIdentifier
     (within_once (Prints authority_key_identifier) authority_key_identifiers.once octets p.0 q.0 p.2 q.2) ∙ sym q.1
@@ -198,22 +202,28 @@ RefusesKind kinds.AuthorityKeyIdentifier octets e = RefusesShape (IsWithin (Prin
 RefusesKind kinds.ExtendedKeyUsage octets e = RefusesShape (IsWithin (Prints extended_key_usage) octets) e
 RefusesKind kinds.Other octets e = e ≡ errors.Memory
 
-names_fit : (kind : ExtensionKind) (named : List RawGeneralName → ExtensionView) (octets : List ℕ) → ((names : List RawGeneralName) → IsWithin AreGeneralNames octets names → IsValueOf kind octets (named names))
-    → (HoldsNoNames octets → MayBeKept kind octets) → FitsWithin AreGeneralNames octets ⊎ HoldsNoNames octets → (view : ExtensionView) × IsValueOf kind octets view
+names_fit : (kind : ExtensionKind) (named : List RawGeneralName → ExtensionView) (octets : List ℕ)
+    → ((names : List RawGeneralName) → IsWithin AreGeneralNames octets names → IsValueOf kind octets (named names))
+    → (HoldsNoNames octets → MayBeKept kind octets) → FitsWithin AreGeneralNames octets ⊎ HoldsNoNames octets
+    → (view : ExtensionView) × IsValueOf kind octets view
 names_fit kind named octets is keeps (inl fit) = (named fit.0, is fit.0 fit.1)
 names_fit kind named octets is keeps (inr none) = (views.Raw octets, (keeps none, refl))
 
-pub told_value : (kind : ExtensionKind) (octets : List ℕ) (test : Bool) → FitsWithin AreGeneralNames octets ⊎ HoldsNoNames octets → TellsKind kind octets test → IsTrue test → (view : ExtensionView) × IsValueOf kind octets view
+pub told_value : (kind : ExtensionKind) (octets : List ℕ) (test : Bool) → FitsWithin AreGeneralNames octets ⊎ HoldsNoNames octets → TellsKind kind octets test
+    → IsTrue test → (view : ExtensionView) × IsValueOf kind octets view
 told_value kinds.SubjectKeyIdentifier octets test names tells holds = let fit = tells.fits holds in (views.SubjectKeyIdentifier fit.0, (refl, fit.1))
 told_value kinds.KeyUsage octets test names tells holds = let fit = tells.fits holds in (views.KeyUsage fit.0, (refl, fit.1))
-told_value kinds.SubjectAltName octets test names tells holds = names_fit kinds.SubjectAltName views.SubjectAltName octets (λ x is. (refl, is)) (λ none. none) names
-told_value kinds.IssuerAltName octets test names tells holds = names_fit kinds.IssuerAltName views.IssuerAltName octets (λ x is. (refl, is)) (λ none. none) names
+told_value kinds.SubjectAltName octets test names tells holds =
+    names_fit kinds.SubjectAltName views.SubjectAltName octets (λ x is. (refl, is)) (λ none. none) names
+told_value kinds.IssuerAltName octets test names tells holds =
+    names_fit kinds.IssuerAltName views.IssuerAltName octets (λ x is. (refl, is)) (λ none. none) names
 told_value kinds.BasicConstraints octets test names tells holds = let fit = tells.fits holds in (views.BasicConstraints fit.0, (refl, fit.1))
 told_value kinds.AuthorityKeyIdentifier octets test names tells holds = let fit = tells.fits holds in (views.AuthorityKeyIdentifier fit.0, (refl, fit.1))
 told_value kinds.ExtendedKeyUsage octets test names tells holds = let fit = tells.fits holds in (views.ExtendedKeyUsage fit.0, (refl, fit.1))
 told_value kinds.Other octets test names tells holds = (views.Raw octets, (tt, refl))
 
-inside : {X : Type 0} (named : X → ExtensionView) (Is : X → Type 0) (view : ExtensionView) → (value : X) × (view ≡ named value) × Is value → (value : X) × Is value
+inside : {X : Type 0} (named : X → ExtensionView) (Is : X → Type 0) (view : ExtensionView) → (value : X) × (view ≡ named value) × Is value
+    → (value : X) × Is value
 inside named Is view held = (held.0, held.2)
 
 none_told : {X : Type 0} (Is : X → Type 0) (test : Bool) → Tells Is test → test ≡ false → (value : X) × Is value → ⊥
@@ -222,26 +232,33 @@ none_told Is test tells fails held = tells.unfit fails held.0 held.1
 no_test : (test : Bool) → test ≡ true → test ≡ false → ⊥
 no_test test holds fails = absurd cc
 
-pub told_none : (kind : ExtensionKind) (octets : List ℕ) (test : Bool) → TellsKind kind octets test → test ≡ false → (view : ExtensionView) → IsValueOf kind octets view → ⊥
-told_none kinds.SubjectKeyIdentifier octets test tells fails view of = none_told _ test tells fails (inside _ _ view (holds_of kinds.SubjectKeyIdentifier octets view of))
+pub told_none : (kind : ExtensionKind) (octets : List ℕ) (test : Bool) → TellsKind kind octets test → test ≡ false → (view : ExtensionView)
+    → IsValueOf kind octets view → ⊥
+told_none kinds.SubjectKeyIdentifier octets test tells fails view of =
+    none_told _ test tells fails (inside _ _ view (holds_of kinds.SubjectKeyIdentifier octets view of))
 told_none kinds.KeyUsage octets test tells fails view of = none_told _ test tells fails (inside _ _ view (holds_of kinds.KeyUsage octets view of))
 told_none kinds.SubjectAltName octets test tells fails view of = no_test test tells fails
 told_none kinds.IssuerAltName octets test tells fails view of = no_test test tells fails
-told_none kinds.BasicConstraints octets test tells fails view of = none_told _ test tells fails (inside _ _ view (holds_of kinds.BasicConstraints octets view of))
-told_none kinds.AuthorityKeyIdentifier octets test tells fails view of = none_told _ test tells fails (inside _ _ view (holds_of kinds.AuthorityKeyIdentifier octets view of))
-told_none kinds.ExtendedKeyUsage octets test tells fails view of = none_told _ test tells fails (inside _ _ view (holds_of kinds.ExtendedKeyUsage octets view of))
+told_none kinds.BasicConstraints octets test tells fails view of =
+    none_told _ test tells fails (inside _ _ view (holds_of kinds.BasicConstraints octets view of))
+told_none kinds.AuthorityKeyIdentifier octets test tells fails view of =
+    none_told _ test tells fails (inside _ _ view (holds_of kinds.AuthorityKeyIdentifier octets view of))
+told_none kinds.ExtendedKeyUsage octets test tells fails view of =
+    none_told _ test tells fails (inside _ _ view (holds_of kinds.ExtendedKeyUsage octets view of))
 told_none kinds.Other octets test tells fails view of = no_test test tells fails
 
 only_memory : {X : Type 0} (P : X → Type 0) (e : DerError) → e ≡ errors.Memory → RefusesShape P e
 only_memory P e is = subst (RefusesShape P) (sym is) tt
 
 pub kind_refused : (kind : ExtensionKind) (octets : List ℕ) (e : DerError) → RefusesKind kind octets e → RefusesShape (IsValueOf kind octets) e
-kind_refused kinds.SubjectKeyIdentifier octets e refused = list_refused _ _ e (λ view of. inside _ _ view (holds_of kinds.SubjectKeyIdentifier octets view of)) refused
+kind_refused kinds.SubjectKeyIdentifier octets e refused =
+    list_refused _ _ e (λ view of. inside _ _ view (holds_of kinds.SubjectKeyIdentifier octets view of)) refused
 kind_refused kinds.KeyUsage octets e refused = list_refused _ _ e (λ view of. inside _ _ view (holds_of kinds.KeyUsage octets view of)) refused
 kind_refused kinds.SubjectAltName octets e refused = only_memory _ e refused
 kind_refused kinds.IssuerAltName octets e refused = only_memory _ e refused
 kind_refused kinds.BasicConstraints octets e refused = list_refused _ _ e (λ view of. inside _ _ view (holds_of kinds.BasicConstraints octets view of)) refused
-kind_refused kinds.AuthorityKeyIdentifier octets e refused = list_refused _ _ e (λ view of. inside _ _ view (holds_of kinds.AuthorityKeyIdentifier octets view of)) refused
+kind_refused kinds.AuthorityKeyIdentifier octets e refused =
+    list_refused _ _ e (λ view of. inside _ _ view (holds_of kinds.AuthorityKeyIdentifier octets view of)) refused
 kind_refused kinds.ExtendedKeyUsage octets e refused = list_refused _ _ e (λ view of. inside _ _ view (holds_of kinds.ExtendedKeyUsage octets view of)) refused
 kind_refused kinds.Other octets e refused = only_memory _ e refused
 
@@ -272,9 +289,11 @@ written_as (views.ExtendedKeyUsage x) = (x, refl, refl)
 written_as (views.Raw x) = refl
 
 written_once : (kind : ExtensionKind) (octets : List ℕ) (a b : ExtensionView) → IsWrittenAs kind octets a → IsWrittenAs kind octets b → a ≡ b
-written_once kinds.SubjectKeyIdentifier octets a b p q = p.1 ∙ ap views.SubjectKeyIdentifier (printed_once key_identifier octet_strings p.0 q.0 (sym p.2 ∙ q.2)) ∙ sym q.1
+written_once kinds.SubjectKeyIdentifier octets a b p q =
+    p.1 ∙ ap views.SubjectKeyIdentifier (printed_once key_identifier octet_strings p.0 q.0 (sym p.2 ∙ q.2)) ∙ sym q.1
 written_once kinds.KeyUsage octets a b p q = p.1 ∙ ap views.KeyUsage (printed_once key_usage key_usages p.0 q.0 (sym p.2 ∙ q.2)) ∙ sym q.1
-written_once kinds.SubjectAltName octets a b p q = p.1 ∙ ap views.SubjectAltName (printed_once general_names general_name_lists p.0 q.0 (sym p.2 ∙ q.2)) ∙ sym q.1
+written_once kinds.SubjectAltName octets a b p q =
+    p.1 ∙ ap views.SubjectAltName (printed_once general_names general_name_lists p.0 q.0 (sym p.2 ∙ q.2)) ∙ sym q.1
 written_once kinds.IssuerAltName octets a b p q = p.1 ∙ ap views.IssuerAltName (printed_once general_names general_name_lists p.0 q.0 (sym p.2 ∙ q.2)) ∙ sym q.1
 written_once kinds.BasicConstraints octets a b p q =
     p.1 ∙ ap views.BasicConstraints
@@ -283,13 +302,15 @@ written_once kinds.BasicConstraints octets a b p q =
 written_once kinds.AuthorityKeyIdentifier octets a b p q =
     p.1 ∙ ap views.AuthorityKeyIdentifier
     (printed_once authority_key_identifier authority_key_identifiers p.0 q.0 (sym p.2 ∙ q.2)) ∙ sym q.1
-written_once kinds.ExtendedKeyUsage octets a b p q = p.1 ∙ ap views.ExtendedKeyUsage (printed_once extended_key_usage extended_key_usages p.0 q.0 (sym p.2 ∙ q.2)) ∙ sym q.1
+written_once kinds.ExtendedKeyUsage octets a b p q =
+    p.1 ∙ ap views.ExtendedKeyUsage (printed_once extended_key_usage extended_key_usages p.0 q.0 (sym p.2 ∙ q.2)) ∙ sym q.1
 written_once kinds.Other octets a b p q = p ∙ sym q
 
 pub values_by_octets : (a b : ExtensionView) → kind_of_view a ≡ kind_of_view b → value_octets a ≡ value_octets b → a ≡ b
 values_by_octets a b kind octets =
     written_once (kind_of_view b) (value_octets b) a b
-    (subst (λ (o : List ℕ). IsWrittenAs (kind_of_view b) o a) octets (subst (λ (k : ExtensionKind). IsWrittenAs k (value_octets a) a) kind (written_as a))) (written_as b)
+    (subst (λ (o : List ℕ). IsWrittenAs (kind_of_view b) o a) octets (subst (λ (k : ExtensionKind). IsWrittenAs k (value_octets a) a) kind (written_as a)))
+    (written_as b)
 
 pub views_by_octets : (a b : ExtensionView) → view_octets a ≡ view_octets b → a ≡ b
 views_by_octets a b e =
@@ -321,7 +342,8 @@ values_written (views.Raw x) der = refl
 
 -- ---- octets that hold a value are what is written for it, but for basic constraints
 
-written_octets : {X : Type 0} (written : X → DerElement) (octets : List ℕ) (value : X) → IsWithin (λ (element : DerElement) (x : X). element ≡ written x) octets value → octets ≡ encoding (written value)
+written_octets : {X : Type 0} (written : X → DerElement) (octets : List ℕ) (value : X)
+    → IsWithin (λ (element : DerElement) (x : X). element ≡ written x) octets value → octets ≡ encoding (written value)
 written_octets written octets value within = within.encoded ∙ ap encoding within.spelled
 
 pub written_or_constraints : (octets : List ℕ) (view : ExtensionView) → IsValueIn octets view
