@@ -9,7 +9,7 @@ ghost use Rattle.pe_core.specs.Image.{IsSignedImage, image_rules};
 
 use crate::error::PeError;
 use crate::hashing::digest_of_parts;
-use crate::header::{ENTRY_LENGTH, OptionalHeader, TableEntry, signature_of};
+use crate::header::{ENTRY_LENGTH, OptionalHeader, TableEntry, pe_mark};
 use sig_core::HashAlgorithm;
 use std::alloc::{AllocError, Global};
 
@@ -35,7 +35,7 @@ pub struct PeImage<'a> {
 
 impl<'a> PeImage<'a> {
     /// Finds the parts of a program file. Fails with the first of these that doesn't hold: it has
-    /// an MS-DOS header; a PE signature; the magic number of PE32 or PE32+; a data directory for
+    /// an MS-DOS header; the PE mark; the magic number of PE32 or PE32+; a data directory for
     /// the certificate table; such a table; and this table is the end of the file. It doesn't
     /// allocate.
     pub fn parse(bytes: &'a [u8]) -> Result<PeImage<'a>, PeError>
@@ -43,7 +43,7 @@ impl<'a> PeImage<'a> {
             (λ image. (image.file.now ≡ bytes.now) × IsSignedImage bytes.now)
             (IsFirstBroken (image_rules bytes.now)) }
     {
-        let header = OptionalHeader::of(bytes, signature_of(bytes)?)?;
+        let header = OptionalHeader::of(bytes, pe_mark(bytes)?)?;
         let format = header.format()?;
         let entry = TableEntry::of(bytes, header, format)?;
         entry.expect_last(bytes)?;
