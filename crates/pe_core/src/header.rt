@@ -16,13 +16,13 @@ const DOS_MARK: u16 = 0x5a4d;
 const PE_MARK: u32 = 0x4550;
 
 /// The offset at which the MS-DOS header has that of the PE mark.
-const MARK_OFFSET: usize = 60;
+pub(crate) const MARK_OFFSET: usize = 60;
 
 /// The offset of the optional header's size, from the PE mark.
-const HEADER_SIZE: usize = 20;
+pub(crate) const HEADER_SIZE: usize = 20;
 
 /// How many octets the PE mark and the COFF header have.
-const COFF_LENGTH: usize = 24;
+pub(crate) const COFF_LENGTH: usize = 24;
 
 /// The offset of the certificate table's entry in the data directories, where it is the fifth.
 const CERTIFICATE_ENTRY: usize = 32;

@@ -5,11 +5,16 @@ ghost use Rattle.der_core.specs.Rules.{IsFirstBroken};
 ghost use Rattle.sig_core.specs.Digest.{digest_of, digest_size};
 ghost use Rattle.pe_core.specs.Bound.{bound_octets, head_of, middle_of, rest_of, table_of};
 ghost use Rattle.pe_core.specs.Fields.{checksum_offset, entry_offset, table_offset};
+ghost use Rattle.pe_core.specs.Entries.{HasTable, IsTable};
 ghost use Rattle.pe_core.specs.Image.{IsSignedImage, image_rules};
+ghost use Rattle.pe_core.specs.Layout.{IsWhole, layout_rules};
 
+use crate::entries::Entries;
 use crate::error::PeError;
 use crate::hashing::digest_of_parts;
 use crate::header::{ENTRY_LENGTH, OptionalHeader, TableEntry, pe_mark};
+use crate::layout::SectionTable;
+use crate::layout_error::{BadTable, LayoutError};
 use sig_core::HashAlgorithm;
 use std::alloc::{AllocError, Global};
 
@@ -55,6 +60,19 @@ impl<'a> PeImage<'a> {
         })
     }
 
+    /// Checks that the image is whole, so that a loader which copies its headers and the data of
+    /// its sections copies nothing but what is digested, the checksum and the certificate table's
+    /// entry aside. Fails with the first of these that doesn't hold: the section table is within
+    /// the headers, by SizeOfHeaders, and these are ahead of the certificate table; the data of
+    /// each section that has any is behind the headers and ahead of the certificate table. It
+    /// doesn't allocate.
+    pub fn expect_whole(&self) -> Result<(), LayoutError>
+        ensures { MatchResult result (λ _. IsWhole self.now.file.now)
+            (IsFirstBroken (layout_rules self.now.file.now)) }
+    {
+        SectionTable::of(self.file, self.table)?.expect_inside()
+    }
+
     /// The octets before the checksum.
     pub fn head(&self) -> &'a [u8]
         ensures { result.now ≡ head_of self.now.file.now }
@@ -81,6 +99,16 @@ impl<'a> PeImage<'a> {
         ensures { result.now ≡ table_of self.now.file.now }
     {
         &self.file[self.table..]
+    }
+
+    /// The entries of the certificate table, one after another, where it is a list of entries. Each
+    /// begins at a multiple of eight octets from the beginning of the table. It doesn't allocate.
+    pub fn entries(&self) -> Result<Entries<'a>, BadTable>
+        ensures { MatchResult result
+            (λ entries. IsTable (table_of self.now.file.now) entries.are.0)
+            (λ _. HasTable (table_of self.now.file.now) → ⊥) }
+    {
+        Entries::of(self.table())
     }
 
     /// The digest of all octets but those of the checksum, the certificate table's entry and the
