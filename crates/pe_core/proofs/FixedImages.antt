@@ -77,7 +77,9 @@ module _ (octets : List ℕ) (image : IsSignedImage octets) where
 
   bound_long : length (bound_octets octets) + 12 ≡ table_offset octets
   bound_long =
-      omega (arith, ap length bound_is, length-append (head_of octets) others, length-append (middle_of octets) (rest_of octets), head_long, middle_long, rest_long)
+      let first = length-append (head_of octets) others in
+      let second = length-append (middle_of octets) (rest_of octets) in
+      omega (arith, ap length bound_is, first, second, head_long, middle_long, rest_long)
 
 -- ---- two images
 

@@ -1,20 +1,17 @@
 -- The rules for layouts: one answer, and what a whole image's signature is about.
-use Rattle.std.proofs.Common.{◌≡◌, ◌⊎◌, inl, inr, ℕ, ◌+◌, ◌*◌, ◌<◌, ◌≤◌, Bool, true, false, not, ◌&&◌, nat_lt, List, refl, sym, ap, ◌∙◌, arith}
+use Rattle.std.proofs.Common.{◌≡◌, ◌⊎◌, inl, inr, ℕ, ◌+◌, ◌<◌, ◌≤◌, Bool, true, false, not, ◌&&◌, nat_lt, List, refl, sym, ap, ◌∙◌, arith}
 use Rattle.std.specs.Prelude.{IsTrue}
 use Rattle.std.proofs.lemmas.Bool.{lt-ltb, cases_lt}
 use Rattle.der_core.specs.Rules.{IsMet, IsFirstBroken}
 use Rattle.pe_core.specs.Bound.{is_within, is_bound}
 use Rattle.pe_core.specs.Fields.{checksum_offset, entry_offset, table_offset, format_of, magic_of}
 use Rattle.pe_core.specs.Image.{IsSignedImage}
-use Rattle.pe_core.specs.Layout.{HasHeadersInside, HasHeadersOutside, HasSectionOutside, HasSectionsInside, IsFirstOutside, IsInSection, LiesInside, IsLeftOut, IsWhole, layout_rules, size_of_headers}
+use Rattle.pe_core.specs.Layout.{HasSectionOutside, IsFirstOutside, IsInSection, LiesInside, IsLeftOut, IsWhole, layout_rules, size_of_headers}
 use Rattle.pe_core.specs.declared.layout_error.LayoutError.{LayoutError}
 use Rattle.pe_core.specs.declared.layout_error.LayoutError.TheVariants as errors
-use Rattle.pe_core.proofs.Parts.{yes, in_rest, far_enough}
+use Rattle.pe_core.proofs.Parts.{in_rest, far_enough}
 
 -- ---- the rules
-
-pub headers_met : (octets : List ℕ) → HasHeadersInside octets → IsMet (HasHeadersOutside octets)
-headers_met octets inside e broken = broken.0 inside
 
 sections_whole : (octets : List ℕ) (e : LayoutError) → IsWhole octets
     → HasSectionOutside octets e ⊎ (IsMet (HasSectionOutside octets) × ⊥) → ⊥

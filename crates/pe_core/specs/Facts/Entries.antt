@@ -1,9 +1,9 @@
 -- That octets are those of one list of entries at most, and what is left behind the first entry.
-use Rattle.std.specs.Prelude.{◌≡◌, ◌≢◌, ℕ, ◌+◌, ◌<◌, ◌≤◌, List, [], ◌∷◌, ◌++◌, length, take, drop, replicate}
+use Rattle.std.specs.Prelude.{◌≡◌, ℕ, ◌<◌, ◌≤◌, List, [], ◌∷◌, ◌++◌, length, take, replicate}
 use Rattle.std.specs.Coded.{×_prop, le_prop}
 use Rattle.std.specs.Int.{w32, from_le_bytes}
 use Rattle.std.specs.List.{AllByRecursion, AllByRecursion-prop}
-use Rattle.std.proofs.Common.{refl, sym, ap, ◌∙◌, subst, arith, length-append, append_assoc}
+use Rattle.std.proofs.Common.{refl, sym, ap, ◌∙◌, arith, length-append, append_assoc}
 use Rattle.std.proofs.Math.Seq.{take-append_seam}
 use Rattle.std.proofs.lemmas.List.{append_cancel_left, length-replicate, take-append-le}
 use mathlib.Core.HLevel.{Σ_prop_path}
@@ -77,7 +77,10 @@ same_list (e ∷ es) (f ∷ fs) i j all all' few few' same =
     let first : e ≡ f = same_entry e f (after (length e) es i) (after (length f) fs j) all.0 all'.0 fronts in
     let moved : e ++ after (length e) es i ≡ e ++ after (length e) fs j =
     fronts ∙ ap (λ (o : List ℕ). o ++ after (length o) fs j) (sym first) in
-    let rest : es ≡ fs = tails (length e) es fs i j all.1 all'.1 few few' (same_list es fs i j all.1 all'.1 few few') (append_cancel_left e (after (length e) es i) (after (length e) fs j) moved) in
+    let behind : after (length e) es i ≡ after (length e) fs j =
+    append_cancel_left e (after (length e) es i) (after (length e) fs j) moved in
+    let others = same_list es fs i j all.1 all'.1 few few' in
+    let rest : es ≡ fs = tails (length e) es fs i j all.1 all'.1 few few' others behind in
     ap (λ (o : List ℕ). o ∷ es) first ∙ ap (λ (os : List (List ℕ)). f ∷ os) rest
 
 same_behind : (es : List (List ℕ)) (i j : ℕ) → laid_out es i ≡ laid_out es j → i ≡ j

@@ -16,8 +16,10 @@ returns-then-not-is_zeros c =
     let sized : length filling ≡ padding_size (length c.in-Some.entry.now) = c.split_at.ensures.front_len ∙ c.padding_length.ensures in (
       λ no. absurd (false≢true no),
       λ has.
-          absurd (unfilled c.loop-entry.rest.now c.in-Some.entry.now c.in-Some.behind.now filling c.split_at.result.1.now c.in-Some.ensures.0 c.in-Some.ensures.1 (omega arith) c.split_at.ensures.by_index.0 sized
-          (λ zeros. both_ways c.is_zeros-in-Some.result c.if-not-is_zeros.true (c.is_zeros-in-Some.ensures.1 zeros)) (c.loop-entry.invariant.0 has)),
+          absurd (unfilled c.loop-entry.rest.now c.in-Some.entry.now c.in-Some.behind.now filling c.split_at.result.1.now
+          c.in-Some.ensures.0 c.in-Some.ensures.1 (omega arith) c.split_at.ensures.by_index.0 sized
+          (λ zeros. both_ways c.is_zeros-in-Some.result c.if-not-is_zeros.true (c.is_zeros-in-Some.ensures.1 zeros))
+          (c.loop-entry.invariant.0 has)),
     )
 
 pub loop-entry-preserved : goal.loop-entry-preserved
@@ -29,7 +31,9 @@ loop-entry-preserved c =
     let zeros = c.is_zeros-in-Some.ensures.0 c.if-not-is_zeros.false in
     let filled : c.in-Some.behind.now ≡ padding (length c.in-Some.entry.now) ++ next =
     c.split_at.ensures.by_index.0 ∙ ap (λ (o : List ℕ). o ++ next) (filled_by filling (length c.in-Some.entry.now) sized zeros) in
-    let step = stepped c.loop-entry.rest.now c.in-Some.entry.now c.in-Some.behind.now next c.in-Some.ensures.0 c.in-Some.ensures.1 (omega arith) filled in
+    let step =
+    stepped c.loop-entry.rest.now c.in-Some.entry.now c.in-Some.behind.now next c.in-Some.ensures.0 c.in-Some.ensures.1 (omega arith)
+    filled in
     (λ has. step.0 (held.0 has), λ has. held.1 (step.1 has))
 
 pub returns : goal.returns

@@ -11,4 +11,5 @@ returns-then-bytes-size c = no_long c.args.bytes.now c.in_ok-size.field-0 c.in_o
 pub returns : goal.returns
 returns c =
     let parts = c.split_at.result in
-    cut c.args.bytes.now parts.0.now parts.1.now c.in_ok-size.field-0 c.in_ok-size.ensures.1 (omega arith) c.split_at.ensures.by_index.0 c.split_at.ensures.front_len
+    cut c.args.bytes.now parts.0.now parts.1.now c.in_ok-size.field-0 c.in_ok-size.ensures.1 (omega arith)
+    c.split_at.ensures.by_index.0 c.split_at.ensures.front_len

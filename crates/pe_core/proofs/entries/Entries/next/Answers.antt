@@ -9,10 +9,16 @@ returns-in_default c =
 
 pub invariant_of-self : goal.invariant_of-self
 invariant_of-self c =
-    let behind = c.in-Some.behind.now in
-    let left = left_behind c.args.self.now.rest.now c.args.self.now.are c.in-Some.whole.now behind c.without_padding-self.result.now c.in-Some.ensures.0 c.in-Some.ensures.1 c.without_padding-self.ensures.last c.without_padding-self.ensures.more in
+    let parts = c.in-Some in
+    let rest = c.without_padding-self in
+    let left =
+    left_behind c.args.self.now.rest.now c.args.self.now.are parts.whole.now parts.behind.now rest.result.now
+    parts.ensures.0 parts.ensures.1 rest.ensures.last rest.ensures.more in
     record { are = (left.0, left.2) }
 
 pub returns : goal.returns
 returns c =
-    next_are c.args.self.now.rest.now c.args.self.now.are c.in-Some.whole.now c.in-Some.behind.now c.without_padding-self.result.now _ c.in-Some.ensures.0 c.in-Some.ensures.1 c.without_padding-self.ensures.last c.without_padding-self.ensures.more (search rules)
+    let parts = c.in-Some in
+    let rest = c.without_padding-self in
+    next_are c.args.self.now.rest.now c.args.self.now.are parts.whole.now parts.behind.now rest.result.now _
+    parts.ensures.0 parts.ensures.1 rest.ensures.last rest.ensures.more (search rules)
