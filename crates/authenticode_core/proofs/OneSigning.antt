@@ -2,7 +2,6 @@
 use Rattle.std.proofs.Common.{◌≡◌, ◌≢◌, ℕ, List, [], ◌∷◌, refl, sym, ap, subst, ◌∙◌}
 use Rattle.asn1_types.specs.Elements.{integer}
 use Rattle.asn1_types.specs.Facts.Elements.{integers}
-use Rattle.asn1_types.specs.declared.integer.IntegerAsn1.{IntegerAsn1}
 use Rattle.asn1_types.specs.declared.oids.TheConstants.{KP_CODE_SIGNING}
 use Rattle.cms_types.specs.SignedDataElements.{SignedDataElements}
 use Rattle.cms_types.specs.SignerElements.{SignerElements}
@@ -12,7 +11,7 @@ use Rattle.der_core.specs.Optional.{members_of}
 use Rattle.der_core.specs.DerElement.{DerElement, Primitive}
 use Rattle.der_core.specs.Elements.{sequence}
 use Rattle.der_core.specs.Rules.{IsMet, IsFirstBroken}
-use Rattle.der_core.proofs.RuleLists.{AreMet, AreReturnedOnce, IsReturnedOnce, NoneReturns, none_broken, one_broken}
+use Rattle.der_core.proofs.RuleLists.{AreMet, AreReturnedOnce, IsReturnedOnce, none_broken, one_broken}
 use Rattle.key_core.proofs.Verifications.{verify_one, accepted_is_met}
 use Rattle.key_core.specs.Verifying.{Judge, verify_rules}
 use Rattle.key_core.specs.declared.signature_algorithm.SignatureAlgorithm.TheVariants.{RsaPkcs1v15}
@@ -197,25 +196,3 @@ module _ (judge : Judge) (f : SignedDataElements) (d : IndirectData) (g : Signer
 
   pub one_signing_refusal : (a b : AuthenticodeError) → IsFirstBroken (signing_rules judge f d g) a → IsFirstBroken (signing_rules judge f d g) b → a ≡ b
   one_signing_refusal = one_broken (signing_rules judge f d g) signing_rules_are_returned_once
-
-  -- ---- none of them reports out of memory
-
-  no_certificate : (issuer : DirectoryName) (serial_number : IntegerAsn1) → errors.Memory ≡ errors.NoCertificatesAssociatedWithIssuerAndSerialNumber issuer serial_number → ⊥
-  no_certificate issuer serial_number e = absurd cc
-
-  no_algorithm : (u : UnsupportedAlgorithmError) → errors.Memory ≡ errors.UnsupportedAlgorithmError u → ⊥
-  no_algorithm u e = absurd cc
-
-  no_signature : (source : SignatureError) → errors.Memory ≡ errors.SignatureError source → ⊥
-  no_signature source e = absurd cc
-
-  no_message : errors.Memory ≡ errors.NoMessageDigest → ⊥
-  no_message e = absurd cc
-
-  no_hash : errors.Memory ≡ errors.UnsupportedHashAlgorithmError (record { algorithm = SHA2_224 }) → ⊥
-  no_hash e = absurd cc
-
-  no_mismatch : (actual expected : List ℕ) → errors.Memory ≡ errors.HashMismatch actual expected → ⊥
-  no_mismatch actual expected e = absurd cc
-
-  )

@@ -1,6 +1,6 @@
 -- Building a signature step by step.
-use Rattle.std.proofs.Common.{◌≡◌, ℕ, List, [], ◌∷◌, ◌++◌, map, Option, Some, None, MatchResult, refl, sym, ap, subst, ◌∙◌, inl, inr}
-use Rattle.std.specs.Prelude.{Result, Vec}
+use Rattle.std.proofs.Common.{◌≡◌, ℕ, List, [], ◌∷◌, ◌++◌, map, Some, None, refl, sym, ap, subst, ◌∙◌, inl, inr}
+use Rattle.std.specs.Prelude.{Vec}
 use Rattle.std.specs.Borrow.{Bor}
 use Rattle.std.specs.declared.alloc.Global.{Global}
 use Rattle.cms_content.specs.ContentInfo.{content_info}
@@ -22,13 +22,12 @@ use Rattle.sig_core.specs.declared.sha_variant.ShaVariant.{ShaVariant}
 use Rattle.x509_core.specs.KeptCertificate.{KeptCertificate}
 use Rattle.x509_types.specs.Attribute.{attribute}
 use Rattle.x509_types.specs.CertificateElements.{CertificateElements}
-use Rattle.x509_types.specs.declared.attribute.Attribute.{Attribute}
 use Rattle.authenticode_core.specs.SigningRules.{IsForCodeSigning}
 use Rattle.authenticode_core.specs.declared.error.AuthenticodeError.TheVariants as signatures
-use Rattle.authenticode_parts.specs.Carried.{AreWithoutRoots, elements_of}
-use Rattle.authenticode_parts.specs.MadeSignature.{attributes_element, signature_made}
+use Rattle.authenticode_parts.specs.Carried.{elements_of}
+use Rattle.authenticode_parts.specs.MadeSignature.{attributes_element}
 use Rattle.authenticode_parts.specs.SignedProgram.{IsSignature}
-use Rattle.authenticode_signature.specs.Building.{Given, HasGiven, IsBuiltSignature, IsBuiltOf, IsNamedFirst, IsSigner, algorithm_by, attributes_by, attributes_in, building_steps, content_by, element_step, part_step, part_steps, key_step, message_by, message_in, later_steps, named_step, parts_by, purpose_step, steps_of, supported_step}
+use Rattle.authenticode_signature.specs.Building.{Given, HasGiven, IsBuiltSignature, IsBuiltOf, IsNamedFirst, IsSigner, algorithm_by, attributes_by, attributes_in, building_steps, content_by, element_step, part_step, part_steps, key_step, message_by, message_in, later_steps, named_step, purpose_step, steps_of, supported_step}
 use Rattle.authenticode_signature.specs.declared.builder.AuthenticodeSignatureBuilder.{AuthenticodeSignatureBuilder}
 use Rattle.authenticode_signature.specs.declared.builder_error.AuthenticodeSignatureBuilderError.{AuthenticodeSignatureBuilderError}
 use Rattle.authenticode_signature.specs.declared.builder_error.AuthenticodeSignatureBuilderError.TheVariants as errors
@@ -69,8 +68,6 @@ module _ (b : AuthenticodeSignatureBuilder) where
 
 pub not_for_code : (g : Given) (c : CertificateElements) → IsNamedFirst g c → (IsForCodeSigning g.bag c → ⊥) → RefusesBySteps errors.Memory (named_step g ∷ purpose_step g ∷ []) (errors.AuthenticodeError signatures.NoEKUCodeSigning)
 not_for_code g c first fails = inl (inr ((c, first), inl (c, first, fails, refl)))
-
--- ---- optional attributes
 
 -- ---- the steps with the arguments
 
@@ -120,10 +117,6 @@ module _ (b : AuthenticodeSignatureBuilder) (g : Given) (algorithm : HashAlgorit
       subst (λ (h : HashAlgorithm). RefusesBySteps errors.Memory (key_step signs (RsaPkcs1v15 h) g.key (message_by b g) ∷ []) e) (sym known)
       (subst (λ (o : List ℕ). RefusesBySteps errors.Memory (key_step signs (RsaPkcs1v15 algorithm) g.key (message_in b.authenticated_attributes o (map attribute (attributes_in b.authenticated_attributes))) ∷ []) e) written
       (refused (map attribute (attributes_in b.authenticated_attributes)) kept))
-
--- ---- the signature
-
-}
 
 -- ---- the steps of the builder
 

@@ -19,7 +19,8 @@ use Rattle.sig_core.specs.DemoScheme.{demo_verdict}
 use Rattle.x509_core.specs.KeptCertificate.{KeptCertificate}
 use Rattle.ca_register.specs.Answer.{IsAnswerTo}
 use Rattle.ca_register.specs.Authorities.{IsRegister}
-use Rattle.ca_register.specs.Counting.{IsAcceptedAt, IsCount, IsUsableAt}
+use Rattle.der_core.specs.Counting.{IsCount}
+use Rattle.ca_register.specs.Counting.{IsAcceptedAt, IsUsableAt}
 use Rattle.ca_register.specs.Filling.{IsFilled}
 use Rattle.ca_register.specs.Inquiry.{IsReportOf, IsReported, Reports}
 use Rattle.ca_register.specs.LineEntries.{IsFirstRefused, entries_of, entry_of}
@@ -30,7 +31,7 @@ use Rattle.ca_register.specs.declared.error.IssueError.{IssueError}
 use Rattle.ca_register.specs.declared.error.IssueError.TheVariants as errors
 use Rattle.ca_register.specs.declared.report.Answer.{Answer}
 use Rattle.ca_register.specs.declared.report.Answer.TheVariants.{Counted, NoIssuer, NotCa, TooDeep}
-use Rattle.ca_register.proofs.Counts.{count_once}
+use Rattle.der_core.proofs.Counting.{count_once}
 use Rattle.ca_register.proofs.FirstRefusals.{none_refused, one_refusal}
 
 -- ---- one answer

@@ -40,10 +40,11 @@ use Rattle.ca_register.specs.declared.entry.Grant.{Grant}
 use Rattle.ca_register.specs.declared.error.IssueError.{IssueError}
 use Rattle.ca_register.specs.declared.error.IssueError.TheVariants as errors
 use Rattle.ca_register.proofs.FirstRefusals.{Begins, IsSame, where_first}
-use Rattle.ca_register.proofs.KeyPairs.{demo_pair, demo_scheme}
+use Rattle.key_core.specs.SmallKeys.{demo_pair, demo_arithmetic}
 use Rattle.ca_register.proofs.LineBuilders.{child_set, root_set}
 use Rattle.ca_register.proofs.LineBuilds.{built_for, numbered, untaken_for_memory}
-use Rattle.ca_register.proofs.LineSubjects.{pairs}
+use Rattle.key_core.proofs.SmallHalves.{pairs}
+use Rattle.ca_register.proofs.LineSubjects.{one_octet}
 
 -- ---- a list cut at an index
 
@@ -170,14 +171,14 @@ unbuilt_memory source e is memory = is ∙ ap unbuilt memory
 
 module _ (line : Line) (short : length line.name ≤ 64) (place word : ℕ) (word_is : word ≡ place + 1) (small : word < 256) (grant : Grant) (given : DirectoryName) (named : name (sets_of given) ≡ common_name line.name) where
   module _ (key : PrivateKey) (private : IsPrivatePkcs1 (key_secret line.key) key) where
-    pub root_refused : (e : IssueError) → RefusesBySteps errors.Memory (root_steps demo_scheme word grant (IsRootBuilder grant given key)) e → e ≢ errors.Memory → IsFirstUntaken (root_step grant ∷ []) e
+    pub root_refused : (e : IssueError) → RefusesBySteps errors.Memory (root_steps demo_arithmetic word grant (IsRootBuilder grant given key)) e → e ≢ errors.Memory → IsFirstUntaken (root_step grant ∷ []) e
     root_refused e (inr memory) other = absurd (other memory)
     root_refused e (inl (inl refused)) other = inl refused
     root_refused e (inl (inr (taken, inl (b, is, (source, same, untaken))))) other =
         absurd (other (unbuilt_memory source e same (untaken_for_memory line line b is.issuer (root_set grant given key line b is named private) word small short short source untaken)))
     root_refused e (inl (inr (taken, inr (built, none)))) other = absurd none
 
-    pub root_for : (cert : KeptCertificate) → IsBuiltBy demo_scheme word (IsRootBuilder grant given key) cert → IsAtIndex place line cert
+    pub root_for : (cert : KeptCertificate) → IsBuiltBy demo_arithmetic word (IsRootBuilder grant given key) cert → IsAtIndex place line cert
     root_for cert by = record {
       for = built_for line line by.builder by.is.issuer (root_set grant given key line by.builder by.is named private) word cert by.built;
       numbered = subst (λ (n : ℕ). IsUnsignedInteger n (integer_contents cert.certificate.tbs_certificate.serial_number)) word_is
@@ -194,13 +195,13 @@ module _ (line : Line) (short : length line.name ≤ 64) (place word : ℕ) (wor
     pub signer_pairs : (parent : KeptCertificate) → HasCert certificates issuer parent → IsKeyPair demo_pair signs parent.certificate.tbs_certificate.subject_public_key_info
     signer_pairs parent has =
         let of = signer parent has in
-        pairs of.0.key of.1.private signs parent.certificate.tbs_certificate.subject_public_key_info of.1.keys of.3
+        pairs (of.0.key ∷ []) (one_octet of.0.key) of.1.private signs parent.certificate.tbs_certificate.subject_public_key_info of.1.keys of.3
 
     -- the error isn't that the key is wrong
     abbrev Right : IssueError → Type 0
     Right e = (parent : KeptCertificate) → HasCert certificates issuer parent → (source : SignatureError) → e ≡ errors.WrongKey source → ⊥
 
-    never_built : (e : IssueError) → IsFirstUntaken (signed_steps demo_scheme word certificates issuer IsChild) e → e ≢ errors.Memory → Right e → ⊥
+    never_built : (e : IssueError) → IsFirstUntaken (signed_steps demo_arithmetic word certificates issuer IsChild) e → e ≢ errors.Memory → Right e → ⊥
     never_built e (inl (parent, b, has, is, (source, same, untaken))) other right =
         let of = signer parent has in
         other (unbuilt_memory source e same
@@ -217,7 +218,7 @@ module _ (line : Line) (short : length line.name ≤ 64) (place word : ℕ) (wor
         by (signature.UnsupportedAlgorithm s) is = right under.parent under.has (signature.UnsupportedAlgorithm s) is
     never_built e (inr (built, inr (signed, none))) other right = none
 
-    pub child_refused : (entries : List Entry) (e : IssueError) → RefusesBySteps errors.Memory (child_steps demo_scheme word certificates issuer IsChild entries) e → e ≢ errors.Memory
+    pub child_refused : (entries : List Entry) (e : IssueError) → RefusesBySteps errors.Memory (child_steps demo_arithmetic word certificates issuer IsChild entries) e → e ≢ errors.Memory
         → Right e → IsFirstUntaken (record_steps entries issuer) e
     child_refused entries e (inr memory) other right = absurd (other memory)
     child_refused entries e (inl (inl refused)) other right = inl refused
@@ -225,10 +226,10 @@ module _ (line : Line) (short : length line.name ≤ 64) (place word : ℕ) (wor
     child_refused entries e (inl (inr (taken, inr (able, inl refused)))) other right = inr (taken, inr (able, inl refused))
     child_refused entries e (inl (inr (taken, inr (able, inr (deep, signed))))) other right = absurd (never_built e signed other right)
 
-    pub child_taken : (entries : List Entry) → AreTaken (child_steps demo_scheme word certificates issuer IsChild entries) → AreTaken (record_steps entries issuer)
+    pub child_taken : (entries : List Entry) → AreTaken (child_steps demo_arithmetic word certificates issuer IsChild entries) → AreTaken (record_steps entries issuer)
     child_taken entries taken = (taken.0, (taken.1.0, (taken.1.1.0, tt)))
 
-    pub child_for : (cert : KeptCertificate) → IsIssuedCert demo_scheme word certificates issuer IsChild cert → IsAtIndex place line cert
+    pub child_for : (cert : KeptCertificate) → IsIssuedCert demo_arithmetic word certificates issuer IsChild cert → IsAtIndex place line cert
     child_for cert is =
         let under = is.under in
         let by = under.by in
@@ -277,13 +278,13 @@ module _ (lines : List Line) (place : ℕ) (line : Line) (at : slice_get lines p
     (grant : Grant) (granted : grant ≡ grant_of line) (given : DirectoryName) (named : name (sets_of given) ≡ common_name line.name) (key : PrivateKey) (private : IsPrivatePkcs1 (key_secret line.key) key)
     (entries : List Entry) (certificates : List KeptCertificate) (all : length certificates ≡ length entries) (filled : IsFilled (take place lines) entries certificates) where
   abbrev RootAnswer : Result ℕ IssueError → Type 0
-  RootAnswer r = MatchResult r (λ _. AreTaken (root_steps demo_scheme word grant (IsRootBuilder grant given key))) (RefusesBySteps errors.Memory (root_steps demo_scheme word grant (IsRootBuilder grant given key)))
+  RootAnswer r = MatchResult r (λ _. AreTaken (root_steps demo_arithmetic word grant (IsRootBuilder grant given key))) (RefusesBySteps errors.Memory (root_steps demo_arithmetic word grant (IsRootBuilder grant given key)))
 
   pub root_filled : (r : Result ℕ IssueError) (more : List Entry) (longer : List KeptCertificate) → RootAnswer r
-      → IfOk r (Adds (record { issuer = None; grant = grant }) (IsBuiltBy demo_scheme word (IsRootBuilder grant given key)) entries more certificates longer)
+      → IfOk r (Adds (record { issuer = None; grant = grant }) (IsBuiltBy demo_arithmetic word (IsRootBuilder grant given key)) entries more certificates longer)
       → IfOk r (λ _. IsFilled (take next lines) more longer)
   root_filled (Ok x) more longer taken added =
-      next_filled lines place line at entries certificates filled None grant (IsBuiltBy demo_scheme word (IsRootBuilder grant given key)) more longer x next next_is all root granted added
+      next_filled lines place line at entries certificates filled None grant (IsBuiltBy demo_arithmetic word (IsRootBuilder grant given key)) more longer x next next_is all root granted added
       (root_for line of.name.most place word word_is small grant given named key private) (taken.0, tt)
   root_filled (Err e) more longer taken added = tt
 
@@ -310,13 +311,13 @@ module _ (lines : List Line) (place : ℕ) (line : Line) (at : slice_get lines p
   IsGivenChild = IsChildBuilder grant (subjects.Named given own) false signs
 
   abbrev ChildAnswer : Result ℕ IssueError → Type 0
-  ChildAnswer r = MatchResult r (λ _. AreTaken (child_steps demo_scheme word certificates issuer IsGivenChild entries)) (RefusesBySteps errors.Memory (child_steps demo_scheme word certificates issuer IsGivenChild entries))
+  ChildAnswer r = MatchResult r (λ _. AreTaken (child_steps demo_arithmetic word certificates issuer IsGivenChild entries)) (RefusesBySteps errors.Memory (child_steps demo_arithmetic word certificates issuer IsGivenChild entries))
 
   pub child_filled : (r : Result ℕ IssueError) (more : List Entry) (longer : List KeptCertificate) → ChildAnswer r
-      → IfOk r (Adds (record { issuer = Some issuer; grant = grant }) (IsIssuedCert demo_scheme word certificates issuer IsGivenChild) entries more certificates longer)
+      → IfOk r (Adds (record { issuer = Some issuer; grant = grant }) (IsIssuedCert demo_arithmetic word certificates issuer IsGivenChild) entries more certificates longer)
       → IfOk r (λ _. IsFilled (take next lines) more longer)
   child_filled (Ok x) more longer taken added =
-      next_filled lines place line at entries certificates filled (Some issuer) grant (IsIssuedCert demo_scheme word certificates issuer IsGivenChild) more longer x next next_is all by granted added
+      next_filled lines place line at entries certificates filled (Some issuer) grant (IsIssuedCert demo_arithmetic word certificates issuer IsGivenChild) more longer x next next_is all by granted added
       (child_for line of_line.name.most place word word_is small grant given named own keys.0 keys.1 signs certificates issuer signer)
       (child_taken line of_line.name.most place word word_is small grant given named own keys.0 keys.1 signs certificates issuer signer entries taken)
   child_filled (Err e) more longer taken added = tt

@@ -13,10 +13,6 @@ mod Deciding
 mod RecordSteps
 mod Issued
 mod Verdicts
-mod Sizes
-mod KeySecrets
-mod KeyPairs
-mod KeyRefusals
 mod LineSubjects
 mod LineBuilders
 mod TbsParts
@@ -24,7 +20,6 @@ mod TbsSizes
 mod LineBuilds
 mod FirstRefusals
 mod Fillings
-mod Counts
 mod UsableCerts
 mod Answered
 pub mod Cuts

@@ -30,7 +30,7 @@ use Rattle.ca_register.specs.Granting.{IsChildBuilder, IsGranted, IsRootBuilder}
 use Rattle.ca_register.specs.LineCertificates.{IsForLine, common_name}
 use Rattle.ca_register.specs.LineKeys.{AreLineKeys, key_id_of, key_secret}
 use Rattle.ca_register.specs.declared.entry.Grant.{Grant}
-use Rattle.ca_register.proofs.KeyPairs.{identifier_is}
+use Rattle.key_core.proofs.SmallKeys.{identifier_is}
 
 -- The subject has the name and the key of a line, and the authority key identifier is that of the
 -- signer's key.
@@ -153,4 +153,4 @@ module _ (signer line : Line) (b : CertificateBuilder) (issuer : IssuerInfos) (s
 
   pub own_is : (info : SubjectPublicKeyInfo) (own : List ℕ) (subject : DerElement) → IsOfLine line subject info → IsKeyIdentifier b.key_id_gen_method info own → own ≡ key_id_of line.key
   own_is info own subject of identified =
-      identifier_is line.key of.private info own of.keys (subst (λ (m : KeyIdGenMethod). IsKeyIdentifier m info own) set.granted.method identified)
+      identifier_is (line.key ∷ []) of.private info own of.keys (subst (λ (m : KeyIdGenMethod). IsKeyIdentifier m info own) set.granted.method identified)

@@ -45,10 +45,11 @@ use Rattle.ca_register.specs.Granting.{IsGranted}
 use Rattle.ca_register.specs.LineCertificates.{IsForLine}
 use Rattle.ca_register.specs.LineKeys.{key_secret}
 use Rattle.ca_register.specs.declared.entry.Grant.{Grant}
-use Rattle.ca_register.proofs.KeyPairs.{demo_scheme, signs_by_demo}
-use Rattle.ca_register.proofs.KeyRefusals.{half_or_memory, identifier_or_memory, signature_or_memory}
+use Rattle.key_core.specs.SmallKeys.{demo_arithmetic, signs_by_demo}
+use Rattle.key_core.proofs.SmallRefusals.{half_or_memory, identifier_or_memory, signature_or_memory}
+use Rattle.ca_register.proofs.LineSubjects.{one_octet}
 use Rattle.ca_register.proofs.LineBuilders.{HasSubject, IsSetFor, subject_is}
-use Rattle.ca_register.proofs.Sizes.{only_memory}
+use Rattle.der_core.proofs.Sizes.{only_memory}
 use Rattle.ca_register.proofs.TbsSizes.{certificate_small, own, tbs_small}
 
 -- each step is refused for memory alone
@@ -80,7 +81,7 @@ subjects_sure : (signer line : Line) (b : CertificateBuilder) (issuer : IssuerIn
     → AreSure (subject_steps demo_verdict issuer.self_signed b issuer ++ later)
 subjects_sure signer line b issuer later (inl (self, same)) key are =
     subst (λ (s : Bool). AreSure (subject_steps demo_verdict s b issuer ++ later)) (sym self)
-    ((λ e refused. refused.1 ∙ ap no_half (half_or_memory signer.key issuer.key.now refused.0 key refused.2)), are)
+    ((λ e refused. refused.1 ∙ ap no_half (half_or_memory (signer.key ∷ []) issuer.key.now refused.0 key refused.2)), are)
 subjects_sure signer line b issuer later (inr (other, to)) key are =
     subst (λ (s : Bool). AreSure (subject_steps demo_verdict s b issuer ++ later)) (sym other) (
       (λ e refused. absurd (is_given b.authority_key_identifier _ to.authority refused.0)),
@@ -91,25 +92,25 @@ subjects_sure signer line b issuer later (inr (other, to)) key are =
     )
 
 module _ (signer line : Line) (b : CertificateBuilder) (issuer : IssuerInfos) (set : IsSetFor signer line b issuer) (word : ℕ) (small : word < 256) (short : length line.name ≤ 64) (short_signer : length signer.name ≤ 64) where
-  all_sure : AreSure (build_steps demo_scheme b word)
+  all_sure : AreSure (build_steps demo_arithmetic b word)
   all_sure =
       let identifier : (x : CertError) → (identifier_step demo_verdict b issuer).refused x → x ≡ errors.Memory =
       λ x (named, info, subject, (source, is, refused)).
       let of = subject_is signer line b issuer set named info subject in
-      is ∙ ap no_key_id (identifier_or_memory line.key of.private info source of.keys (subst (λ (m : KeyIdGenMethod). RefusesKeyIdentifier m info source) set.granted.method refused)) in
+      is ∙ ap no_key_id (identifier_or_memory (line.key ∷ []) (one_octet line.key) of.private info source of.keys (subst (λ (m : KeyIdGenMethod). RefusesKeyIdentifier m info source) set.granted.method refused)) in
       let algorithm : (x : CertError) → (algorithm_step b).refused x → x ≡ errors.Memory =
       λ x (source, is, refused). is ∙ ap signature_refusal (algorithm_or_memory source (subst (λ (a : SignatureAlgorithm). IsUnwritable a source) set.granted.algorithm refused)) in
-      let octets : (x : CertError) → (octets_step demo_scheme b.signature_hash_type issuer.key.now (IsTbsFor demo_verdict b issuer word)).refused x → x ≡ errors.Memory =
+      let octets : (x : CertError) → (octets_step demo_arithmetic b.signature_hash_type issuer.key.now (IsTbsFor demo_verdict b issuer word)).refused x → x ≡ errors.Memory =
       λ x (tbs, of, (source, is, refused)). is ∙ ap no_octets (only_memory (tbs_written tbs) source (tbs_small signer line b issuer set word tbs of short short_signer small) refused) in
-      let signature : (x : CertError) → (signature_step demo_scheme b.signature_hash_type issuer.key.now (IsTbsFor demo_verdict b issuer word)).refused x → x ≡ errors.Memory =
-      λ x (tbs, of, (source, is, refused)). is ∙ ap no_signature (signature_or_memory signer.key issuer.key.now (message_of tbs) source set.private
+      let signature : (x : CertError) → (signature_step demo_arithmetic b.signature_hash_type issuer.key.now (IsTbsFor demo_verdict b issuer word)).refused x → x ≡ errors.Memory =
+      λ x (tbs, of, (source, is, refused)). is ∙ ap no_signature (signature_or_memory (signer.key ∷ []) (one_octet signer.key) issuer.key.now (message_of tbs) source set.private
       (subst (λ (a : SignatureAlgorithm). RefusesSignatureBy (sign_rules signs_by_demo a issuer.key.now (message_of tbs)) source) set.granted.algorithm refused)) in
-      let whole : (x : CertError) → (whole_step demo_scheme b.signature_hash_type issuer.key.now (IsTbsFor demo_verdict b issuer word)).refused x → x ≡ errors.Memory =
+      let whole : (x : CertError) → (whole_step demo_arithmetic b.signature_hash_type issuer.key.now (IsTbsFor demo_verdict b issuer word)).refused x → x ≡ errors.Memory =
       λ x (c, of, (source, is, refused)). is ∙ ap (unwritten elements.Certificate) (only_memory (written_elements c) source (certificate_small signer line b issuer set word c of short short_signer small) refused) in
-      let later : AreSure (steps_by demo_scheme b word (Some issuer)) =
+      let later : AreSure (steps_by demo_arithmetic b word (Some issuer)) =
       subjects_sure signer line b issuer _ set.has set.private
       (identifier, (algorithm, (octets, (signature, (whole, tt))))) in
-      subst (λ (o : Option IssuerInfos). AreSure (given_steps b ++ steps_by demo_scheme b word o)) (sym set.given) (
+      subst (λ (o : Option IssuerInfos). AreSure (given_steps b ++ steps_by demo_arithmetic b word o)) (sym set.given) (
         (λ x refused. absurd (is_given b.valid_from set.grant.from set.granted.begins refused.0)),
         (
           (λ x refused. absurd (is_given b.valid_to set.grant.to set.granted.ends refused.0)),
@@ -117,13 +118,13 @@ module _ (signer line : Line) (b : CertificateBuilder) (issuer : IssuerInfos) (s
         ),
       )
 
-  pub untaken_for_memory : (e : CertError) → IsFirstUntaken (build_steps demo_scheme b word) e → e ≡ errors.Memory
-  untaken_for_memory e untaken = sure (build_steps demo_scheme b word) e all_sure untaken
+  pub untaken_for_memory : (e : CertError) → IsFirstUntaken (build_steps demo_arithmetic b word) e → e ≡ errors.Memory
+  untaken_for_memory e untaken = sure (build_steps demo_arithmetic b word) e all_sure untaken
 
 -- ---- what is built
 
 module _ (signer line : Line) (b : CertificateBuilder) (issuer : IssuerInfos) (set : IsSetFor signer line b issuer) (word : ℕ) (cert : KeptCertificate) where
-  made_for : IsMade demo_scheme b.signature_hash_type issuer.key.now (IsTbsFor demo_verdict b issuer word) cert → IsForLine line cert
+  made_for : IsMade demo_arithmetic b.signature_hash_type issuer.key.now (IsTbsFor demo_verdict b issuer word) cert → IsForLine line cert
   made_for made =
       let tbs = made.made.tbs in
       let value = cert.certificate.tbs_certificate in
@@ -137,10 +138,10 @@ module _ (signer line : Line) (b : CertificateBuilder) (issuer : IssuerInfos) (s
         identified = subst (λ (k : List ℕ). HasFirst CE_SUBJECT_KEY_IDENTIFIER.now (extensions_in value.extensions) (views.SubjectKeyIdentifier k)) (own signer line b issuer set word value tbs) held;
       }
 
-  pub built_for : IsBuilt demo_scheme b word cert → IsForLine line cert
+  pub built_for : IsBuilt demo_arithmetic b word cert → IsForLine line cert
   built_for is =
       let same : is.issuer ≡ issuer = same_some is.issuer issuer (sym is.given ∙ set.given) in
-      made_for (subst (λ (i : IssuerInfos). IsMade demo_scheme b.signature_hash_type i.key.now (IsTbsFor demo_verdict b i word) cert) same is.made)
+      made_for (subst (λ (i : IssuerInfos). IsMade demo_arithmetic b.signature_hash_type i.key.now (IsTbsFor demo_verdict b i word) cert) same is.made)
 
 -- its serial number is the word, unless that is 0
 pick : (test : Bool) (word : ℕ) → (word == 0) ≡ test → 0 < word → (if test then 1 else word) ≡ word
@@ -151,7 +152,7 @@ word_is : (given : Option (List ℕ)) (word : ℕ) → given ≡ None → 0 < wo
 word_is None word none some = pick (word == 0) word refl some
 word_is (Some octets) word none some = absurd cc
 
-pub numbered : (grant : Grant) (b : CertificateBuilder) (word : ℕ) (cert : KeptCertificate) → IsGranted grant b → 0 < word → IsBuilt demo_scheme b word cert
+pub numbered : (grant : Grant) (b : CertificateBuilder) (word : ℕ) (cert : KeptCertificate) → IsGranted grant b → 0 < word → IsBuilt demo_arithmetic b word cert
     → IsUnsignedInteger word (integer_contents cert.certificate.tbs_certificate.serial_number)
 numbered grant b word cert granted some is =
     subst (λ (n : ℕ). IsUnsignedInteger n (integer_contents cert.certificate.tbs_certificate.serial_number)) (word_is b.serial_number word granted.serial_number some)

@@ -1,13 +1,12 @@
--- The name and the public key of a line, as they are made.
-use Rattle.std.proofs.Common.{◌≡◌, IsTrue, ℕ, List, [], ◌∷◌, refl, sym, ap, ap₂, subst, ◌∙◌}
+-- The name of a line, as it is made, and the modulus of its key.
+use Rattle.std.proofs.Common.{◌≡◌, ℕ, List, [], ◌∷◌, refl, ap, ◌∙◌, arith}
 use Rattle.der_core.specs.DerElement.{DerElement}
 use Rattle.der_core.specs.Elements.{sequence, set}
 use Rattle.asn1_types.specs.Elements.{object_identifier_of}
-use Rattle.asn1_types.specs.Facts.Elements.{same_integer}
+use Rattle.asn1_types.specs.Integer.{IsInteger}
 use Rattle.asn1_types.specs.ObjectIdentifier.{contents_of}
 use Rattle.asn1_types.specs.Subidentifier.{subidentifier}
 use Rattle.asn1_types.specs.Values.{identifier_contents}
-use Rattle.asn1_types.specs.declared.integer.IntegerAsn1.{IntegerAsn1}
 use Rattle.asn1_types.specs.declared.oids.TheConstants.{AT_COMMON_NAME}
 use Rattle.name_types.specs.AttributeValue.{attribute_value}
 use Rattle.name_types.specs.Name.{name}
@@ -17,22 +16,8 @@ use Rattle.name_types.specs.declared.name_attr.NameAttr.TheVariants as attribute
 use Rattle.names_core.specs.DirectoryName.{IsExtended, utf8_value}
 use Rattle.names_core.specs.Names.{sets_of}
 use Rattle.names_core.specs.declared.name.DirectoryName.{DirectoryName}
-use Rattle.key_types.specs.KeyKind.{IsAlgorithmOf, MayHave, names_kind}
-use Rattle.key_types.specs.declared.key_kind.KeyKind.TheVariants as kinds
-use Rattle.key_types.specs.declared.key_info.SubjectPublicKeyInfo.{SubjectPublicKeyInfo}
-use Rattle.key_types.specs.declared.public_key.RsaPublicKey.{RsaPublicKey}
-use Rattle.key_types.specs.declared.subject_key.SubjectKey.TheVariants as keys
-use Rattle.key_types.specs.declared.rsa_private_key.RsaPrivateKey.{RsaPrivateKey}
-use Rattle.key_core.specs.Keys.{container_of, point_beside}
-use Rattle.key_core.specs.MadeKeys.{IsRsaInfo}
-use Rattle.key_core.specs.PrivatePkcs1.{IsPrivatePkcs1, IsRsaContainer}
-use Rattle.key_core.specs.PublicHalf.{IsPublicHalf, public_numbers}
-use Rattle.key_core.specs.Signing.{IsKeyPair}
-use Rattle.key_core.specs.declared.private_key.PrivateKey.{PrivateKey}
-use Rattle.key_core.specs.declared.private_key_value.PrivateKeyValue.{PrivateKeyValue}
+use Rattle.key_core.specs.SmallKeys.{IsSmallModulus}
 use Rattle.ca_register.specs.LineCertificates.{common_name}
-use Rattle.ca_register.specs.LineKeys.{AreLineKeys, key_secret}
-use Rattle.ca_register.proofs.KeyPairs.{half_of, is_der, is_encoded, keys_pair, numbers_are, demo_pair}
 
 -- ---- the name
 
@@ -50,47 +35,10 @@ name_is text given made =
     ap name made.appended ∙ ap (λ (o : List ℕ). single o (attribute_value attribute.value)) oid
     ∙ ap (λ (v : AttributeValue). single AT_COMMON_NAME.now (attribute_value v)) made.valued
 
--- ---- the public key
+-- ---- the modulus
 
-pub algorithm_of_rsa : (key : PrivateKey) (rsa : RsaPrivateKey) → IsRsaContainer rsa (container_of key) → IsAlgorithmOf kinds.Rsa (container_of key).private_key_algorithm
-algorithm_of_rsa key rsa is = record {
-  named = subst (λ (oid : List ℕ). IsTrue (names_kind kinds.Rsa oid)) (sym is.identifier) refl;
-  allowed = subst (MayHave kinds.Rsa) (sym is.parameters) refl;
-}
+not_empty : (number : ℕ) → IsInteger (number ∷ [])
+not_empty number e = absurd cc
 
-abbrev pub info_beside : (key : PrivateKey) (rsa : RsaPrivateKey) → IsRsaContainer rsa (container_of key) → SubjectPublicKeyInfo
-info_beside key rsa is = record {
-  algorithm = (container_of key).private_key_algorithm;
-  subject_public_key = keys.Rsa (public_numbers rsa);
-  fits = algorithm_of_rsa key rsa is;
-}
-
-half_as : (number : ℕ) (key : PrivateKey) (info : SubjectPublicKeyInfo) (is : IsPrivatePkcs1 (key_secret number) key) → IsRsaInfo (public_numbers is.rsa) info → AreLineKeys number key info
-half_as number key info is half = record {
-  private = is;
-  public = subst (λ (v : PrivateKeyValue). IsPublicHalf v (container_of key).private_key_algorithm (point_beside key) info) (sym is.container.is) half;
-}
-
--- the private key of a line has a public one
-pub keys_beside : (number : ℕ) (key : PrivateKey) (is : IsPrivatePkcs1 (key_secret number) key) → AreLineKeys number key (info_beside key is.rsa is.container)
-keys_beside number key is =
-    half_as number key (info_beside key is.rsa is.container) is (record { is = refl; identifier = is.container.identifier; parameters = is.container.parameters })
-
-abbrev numbers : IntegerAsn1 → IntegerAsn1 → RsaPublicKey
-numbers modulus exponent = record { modulus = modulus; public_exponent = exponent }
-
-same_numbers : (number : ℕ) (a b : PrivateKey) (x : IsPrivatePkcs1 (key_secret number) a) (y : IsPrivatePkcs1 (key_secret number) b) → public_numbers x.rsa ≡ public_numbers y.rsa
-same_numbers number a b x y =
-    let first = numbers_are number x.rsa (is_encoded number a x) (is_der number a x) in
-    let second = numbers_are number y.rsa (is_encoded number b y) (is_der number b y) in
-    ap₂ numbers
-    (same_integer x.rsa.n y.rsa.n (first.0 ∙ sym second.0)) (same_integer x.rsa.e y.rsa.e (first.1 ∙ sym second.1))
-
--- the public key of one is that of each other that is read from the same secret
-pub keys_for : (number : ℕ) (a b : PrivateKey) (info : SubjectPublicKeyInfo) → AreLineKeys number a info → IsPrivatePkcs1 (key_secret number) b → AreLineKeys number b info
-keys_for number a b info keys is =
-    half_as number b info is (subst (λ (k : RsaPublicKey). IsRsaInfo k info) (same_numbers number a b keys.private is) (half_of number a info keys))
-
--- a private key that is read from the secret of a line pairs with the public key of the line
-pub pairs : (number : ℕ) (own key : PrivateKey) (info : SubjectPublicKeyInfo) → AreLineKeys number own info → IsPrivatePkcs1 (key_secret number) key → IsKeyPair demo_pair key info
-pairs number own key info keys is = keys_pair number key info (keys_for number own key info keys is)
+pub one_octet : (number : ℕ) → IsSmallModulus (number ∷ [])
+one_octet number = record { integer = not_empty number; few = omega arith }

@@ -31,9 +31,11 @@ use Rattle.x509_issuing.specs.MadeExtensions.{AreWanted, IsForSignatures, IsWant
 use Rattle.x509_issuing.specs.declared.builder.CertificateBuilder.{CertificateBuilder}
 use Rattle.ca_register.specs.Granting.{IsGranted}
 use Rattle.ca_register.specs.LineCertificates.{common_name}
-use Rattle.ca_register.specs.LineKeys.{key_id_of, key_info_of, rsa_key_of, with_null}
+use Rattle.key_core.specs.SmallKeys.{with_null}
+use Rattle.ca_register.specs.LineKeys.{key_id_of, key_info_of}
 use Rattle.ca_register.specs.declared.entry.Grant.{Grant}
-use Rattle.ca_register.proofs.Sizes.{IsSmall, size, within_size}
+use Rattle.der_core.specs.Size.{IsSmall, size}
+use Rattle.der_core.proofs.Sizes.{within_size}
 
 -- ---- the serial number
 
@@ -73,12 +75,6 @@ validity_nested value = omega (arith, time_nested value.not_before, time_nested 
 
 pub name_size : (text : List ℕ) → length text ≤ 64 → size (common_name text) ≤ 120
 name_size text short = omega (arith, short)
-
-pub key_size : (number : ℕ) → size (key_info_of number) ≤ 100
-key_size number = omega (arith, within_size (rsa_key_of number))
-
-pub rsa_small : (number : ℕ) → IsSmall (rsa_key_of number)
-rsa_small number = record { nested = omega arith; light = omega arith }
 
 -- ---- the algorithm
 

@@ -33,12 +33,16 @@ use Rattle.x509_issuing.specs.Inherited.{with_others}
 use Rattle.x509_issuing.specs.declared.builder.CertificateBuilder.{CertificateBuilder}
 use Rattle.x509_issuing.specs.declared.builder.IssuerInfos.{IssuerInfos}
 use Rattle.ca_register.specs.LineCertificates.{common_name}
-use Rattle.ca_register.specs.LineKeys.{key_id_of, key_info_of, rsa_key_of, with_null}
-use Rattle.ca_register.proofs.KeyPairs.{demo_pair, half_of, info_is, keys_pair, rsa_is, signature_length}
+use Rattle.key_core.specs.SmallKeys.{with_null}
+use Rattle.ca_register.specs.LineKeys.{key_id_of, key_info_of, rsa_key_of}
+use Rattle.key_core.specs.SmallKeys.{demo_pair}
+use Rattle.key_core.proofs.SmallKeys.{half_of, info_is, keys_pair, rsa_is, signature_length}
+use Rattle.key_core.proofs.SmallHalves.{info_beside, keys_beside}
+use Rattle.key_core.proofs.SmallRefusals.{key_size, rsa_small}
 use Rattle.ca_register.proofs.LineBuilders.{IsOfLine, IsSetFor, authority_is, own_is, subject_is}
-use Rattle.ca_register.proofs.LineSubjects.{info_beside, keys_beside}
-use Rattle.ca_register.proofs.Sizes.{AreSmall, IsSmall, size}
-use Rattle.ca_register.proofs.TbsParts.{algorithm_is, authority_identifier, authority_small, constraints_in, constraints_small, extensions_are, extensions_size, key_size, line_extensions, name_size, own_identifier, own_small, plain_flag, rsa_small, serial_length, validity_nested, validity_size, values_are}
+use Rattle.ca_register.proofs.LineSubjects.{one_octet}
+use Rattle.der_core.specs.Size.{AreSmall, IsSmall, size}
+use Rattle.ca_register.proofs.TbsParts.{algorithm_is, authority_identifier, authority_small, constraints_in, constraints_small, extensions_are, extensions_size, line_extensions, name_size, own_identifier, own_small, plain_flag, serial_length, validity_nested, validity_size, values_are}
 
 abbrev tbs_by : Option DerElement → List ℕ → DerElement → DerElement → DerElement → DerElement → DerElement → Option (List ℕ) → Option (List ℕ) → Option DerElement → DerElement
 tbs_by v n a i d s k iu su e =
@@ -93,9 +97,9 @@ module _ (signer line : Line) (b : CertificateBuilder) (issuer : IssuerInfos) (s
   inner_is : inner_tbs tbs ≡ rsa_key_of line.key ∷ constraints_in b.ca b.pathlen ∷ own_identifier line.key ∷ authority_identifier signer.key ∷ []
   inner_is =
       let built = built_for.by.built in
-      let half = half_of line.key subject.private tbs.subject_public_key_info subject.keys in
+      let half = half_of (line.key ∷ []) subject.private tbs.subject_public_key_info subject.keys in
       ap (λ (k : SubjectKey). inner_key k ++ inner_option inner_extensions tbs.extensions) half.is
-      ∙ ap (λ (r : DerElement). r ∷ inner_option inner_extensions tbs.extensions) (rsa_is line.key subject.private tbs.subject_public_key_info subject.keys)
+      ∙ ap (λ (r : DerElement). r ∷ inner_option inner_extensions tbs.extensions) (rsa_is (line.key ∷ []) subject.private tbs.subject_public_key_info subject.keys)
       ∙ ap (λ (e : Option (List Extension)). rsa_key_of line.key ∷ inner_option inner_extensions e) built_for.by.given
       ∙ ap (λ (e : List Extension). rsa_key_of line.key ∷ inner_extensions e) listed
       ∙ ap (λ (i : List DerElement). rsa_key_of line.key ∷ i) (values_are set.grant b set.granted built.critical built_for.own _ built.made built.are_made line.key signer.key own authority)
@@ -103,7 +107,7 @@ module _ (signer line : Line) (b : CertificateBuilder) (issuer : IssuerInfos) (s
   pub inner_small : (element : DerElement) → IsSmall element → AreSmall (inner_tbs tbs ++ element ∷ [])
   inner_small element small =
       subst (λ (i : List DerElement). AreSmall (i ++ element ∷ [])) (sym inner_is)
-      (rsa_small line.key, (constraints_small b.ca b.pathlen, (own_small line.key, (authority_small signer.key, (small, tt)))))
+      (rsa_small (line.key ∷ []) (one_octet line.key), (constraints_small b.ca b.pathlen, (own_small line.key, (authority_small signer.key, (small, tt)))))
 
   -- ---- the TBSCertificate
 
@@ -112,7 +116,7 @@ module _ (signer line : Line) (b : CertificateBuilder) (issuer : IssuerInfos) (s
       let algorithm : algorithm_identifier tbs.signature ≡ with_null SHA256_WITH_RSA_ENCRYPTION.now =
       algorithm_is tbs.signature (subst (λ (a : SignatureAlgorithm). IsWrittenAlgorithm a tbs.signature) set.granted.algorithm built_for.by.issued_by.signs) in
       let issued : name tbs.issuer ≡ common_name signer.name = ap name built_for.by.issued_by.named ∙ set.named in
-      let keyed = info_is line.key subject.private tbs.subject_public_key_info subject.keys in
+      let keyed = info_is (line.key ∷ []) subject.private tbs.subject_public_key_info subject.keys in
       ap (λ v. tbs_by v (integer_contents tbs.serial_number) (algorithm_identifier tbs.signature) (name tbs.issuer) (validity tbs.validity) (name tbs.subject) (public_key_info tbs.subject_public_key_info) tbs.issuer_unique_id tbs.subject_unique_id (option_map extensions tbs.extensions)) (ap (option_map version) built_for.by.version)
       ∙ ap (λ a. tbs_by (Some (integer_of (2 ∷ []))) (integer_contents tbs.serial_number) a (name tbs.issuer) (validity tbs.validity) (name tbs.subject) (public_key_info tbs.subject_public_key_info) tbs.issuer_unique_id tbs.subject_unique_id (option_map extensions tbs.extensions)) algorithm
       ∙ ap (λ i. tbs_by (Some (integer_of (2 ∷ []))) (integer_contents tbs.serial_number) (with_null SHA256_WITH_RSA_ENCRYPTION.now) i (validity tbs.validity) (name tbs.subject) (public_key_info tbs.subject_public_key_info) tbs.issuer_unique_id tbs.subject_unique_id (option_map extensions tbs.extensions)) issued
@@ -129,7 +133,7 @@ module _ (signer line : Line) (b : CertificateBuilder) (issuer : IssuerInfos) (s
 
     pub tbs_size : size (tbs_certificate tbs) ≤ 1000
     tbs_size = subst (λ (t : DerElement). size t ≤ 1000) (sym tbs_is)
-        (omega (arith, serial, validity_size tbs.validity, name_size line.name short, name_size signer.name short_signer, key_size line.key, extensions_size line.key signer.key b.ca b.pathlen))
+        (omega (arith, serial, validity_size tbs.validity, name_size line.name short, name_size signer.name short_signer, key_size (line.key ∷ []) (one_octet line.key), extensions_size line.key signer.key b.ca b.pathlen))
 
     pub tbs_nested : nesting (tbs_certificate tbs) ≤ 10
     tbs_nested = subst (λ (t : DerElement). nesting t ≤ 10) (sym tbs_is) (omega (arith, validity_nested tbs.validity))
@@ -145,7 +149,7 @@ module _ (signer line : Line) (b : CertificateBuilder) (issuer : IssuerInfos) (s
   signature : length (payload_of c.signature_value) ≡ 32
   signature =
       let public = info_beside issuer.key.now set.private.rsa set.private.container in
-      let pair = keys_pair signer.key issuer.key.now public (keys_beside signer.key issuer.key.now set.private) in
+      let pair = keys_pair (signer.key ∷ []) (one_octet signer.key) issuer.key.now public (keys_beside (signer.key ∷ []) issuer.key.now set.private) in
       signature_length public (message_of c.tbs_certificate) (payload_of c.signature_value)
       (subst (λ (a : SignatureAlgorithm). Accepts demo_verdict a public (message_of c.tbs_certificate) (payload_of c.signature_value)) set.granted.algorithm (made.accepted public pair))
 

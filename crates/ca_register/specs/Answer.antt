@@ -6,7 +6,8 @@ use Rattle.program_frame.specs.Question.{Line as ReportLine, Question}
 use Rattle.program_frame.specs.Run.{Program}
 use Rattle.program_frame.specs.Statuses as statuses
 use Rattle.ca_register.specs.Lines.{HasBadLine, IsRegisterText, Line}
-use Rattle.ca_register.specs.Counting.{IsCount, IsUsableAt}
+use Rattle.der_core.specs.Counting.{IsCount}
+use Rattle.ca_register.specs.Counting.{IsUsableAt}
 use Rattle.ca_register.specs.LineEntries.{AreIssuable, IsFirstRefused, entries_of}
 use Rattle.ca_register.specs.Words.{AsksFor, Job}
 use Rattle.ca_register.specs.declared.error.IssueError.{IssueError}

@@ -1,5 +1,5 @@
--- How many certificates are accepted at a date.
-use Rattle.std.specs.Prelude.{◌≡◌, ◌⊎◌, ℕ, zero, suc, ◌+◌, List, Some}
+-- Which certificates are usable, and which are accepted, at a date.
+use Rattle.std.specs.Prelude.{ℕ, List, Some}
 use Rattle.asn1_types.specs.declared.generalized_time.GeneralizedTime.{GeneralizedTime}
 use Rattle.key_core.specs.Verifying.{Judge}
 use Rattle.x509_core.specs.Chain.{IsAccepted}
@@ -11,13 +11,6 @@ use Rattle.x509_core.specs.declared.window.DateCheck.TheVariants as dates
 use Rattle.ca_register.specs.Entries.{history_of}
 use Rattle.ca_register.specs.Usable.{IsBetween, IsUsable}
 use Rattle.ca_register.specs.declared.entry.Entry.{Entry}
-
--- of the numbers below this one, so many have the property
-abbrev pub IsCount : (ℕ → Type 0) → (below number : ℕ) → Type 0
-IsCount P zero number = number ≡ 0
-IsCount P (suc below) number =
-    (P below × ((others : ℕ) × (number ≡ others + 1) × IsCount P below others))
-    ⊎ ((P below → ⊥) × IsCount P below number)
 
 -- The entry at an index is usable at the date.
 pub record IsUsableAt (entries : List Entry) (date : GeneralizedTime) (place : ℕ) : Type 0 where

@@ -10,7 +10,8 @@ use Rattle.program_frame.specs.Sink.{Appends}
 use Rattle.ca_register.specs.Lines.{IsRegisterText, Line}
 use Rattle.ca_register.specs.Answer.{report_line}
 use Rattle.ca_register.specs.Authorities.{IsRegister}
-use Rattle.ca_register.specs.Counting.{IsAcceptedAt, IsCount}
+use Rattle.der_core.specs.Counting.{IsCount}
+use Rattle.ca_register.specs.Counting.{IsAcceptedAt}
 use Rattle.ca_register.specs.LineCertificates.{AreForLines}
 use Rattle.ca_register.specs.LineEntries.{entries_of}
 use Rattle.ca_register.specs.Words.{AsksFor, Job}

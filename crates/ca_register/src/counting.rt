@@ -2,7 +2,8 @@
 
 ghost use Rattle.std.specs.Prelude.{◌≡◌, ◌<◌, ◌≤◌, ◌↔◌, ◌+◌, IsTrue, false, length};
 ghost use Rattle.ca_register.specs.Authorities.{IsRegister};
-ghost use Rattle.ca_register.specs.Counting.{IsAcceptedAt, IsCount, IsUsableAt};
+ghost use Rattle.der_core.specs.Counting.{IsCount};
+ghost use Rattle.ca_register.specs.Counting.{IsAcceptedAt, IsUsableAt};
 ghost use Rattle.ca_register.specs.Usable.{IsBetween};
 
 use crate::register::Register;

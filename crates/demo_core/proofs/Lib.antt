@@ -1,10 +1,6 @@
 mod Drawing
 mod StepOrder
-mod Sizes
 mod Smallness
-mod StepSecrets
-mod StepKeys
-mod KeyRefusals
 mod StepParts
 mod StepTbs
 mod StepInner
@@ -15,7 +11,6 @@ mod StepBuilders
 mod StepCerts
 mod Rereading
 mod StepHistories
-mod Counting
 mod Ancestors
 mod Whole
 mod OneReport

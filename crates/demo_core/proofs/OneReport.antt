@@ -1,24 +1,17 @@
 -- Demonstrations of as many steps report the same.
-use Rattle.std.proofs.Common.{◌≡◌, ℕ, zero, suc, List, [], ◌∷◌, length, inl, inr, refl, sym, ap₂, subst, ◌∙◌, arith}
+use Rattle.std.proofs.Common.{◌≡◌, ℕ, suc, List, [], ◌∷◌, length, refl, sym, ap₂, subst, ◌∙◌, arith}
 use Rattle.asn1_types.specs.Facts.Times.{same_generalized}
 use Rattle.asn1_types.specs.declared.generalized_time.GeneralizedTime.{GeneralizedTime}
 use Rattle.x509_core.specs.History.{History, IssuingStep, IsValidAt}
-use Rattle.demo_core.specs.Acceptance.{IsCount, IsRootAt}
+use Rattle.der_core.specs.Counting.{IsCount}
+use Rattle.demo_core.specs.Acceptance.{IsRootAt}
 use Rattle.demo_core.specs.Demonstration.{IsDemonstration}
 use Rattle.demo_core.specs.History.{demo_history}
 use Rattle.demo_core.specs.Issuing.{AreRecords, IsRecordOf}
 use Rattle.demo_core.specs.declared.demonstration.Demonstration.{Demonstration}
 use Rattle.demo_core.specs.declared.history.Step.{Step}
+use Rattle.der_core.proofs.Counting.{count_once}
 use Rattle.demo_core.proofs.Whole.{history_length}
-
--- ---- counts
-
-one_count : (P : ℕ → Type 0) (below a b : ℕ) → IsCount P below a → IsCount P below b → a ≡ b
-one_count P zero a b p q = p ∙ sym q
-one_count P (suc below) a b (inl (has, (x, is, p))) (inl (has', (y, is', q))) = omega (arith, is, is', one_count P below x y p q)
-one_count P (suc below) a b (inl (has, rest)) (inr (none, q)) = absurd (none has)
-one_count P (suc below) a b (inr (none, p)) (inl (has, rest)) = absurd (none has)
-one_count P (suc below) a b (inr (none, p)) (inr (none', q)) = one_count P below a b p q
 
 -- ---- histories
 
@@ -51,7 +44,7 @@ one_report count a b p q =
     let at_date = subst (λ (date : GeneralizedTime). IsCount (λ index. IsValidAt p.made.history index date) count a.accepted) dates p.accepted in
     let valid = subst (λ (history : History). IsCount (λ index. IsValidAt history index q.date) count a.accepted) histories at_date in
     let steps = p.steps ∙ sym q.steps in
-    let roots = one_count (IsRootAt (demo_history count)) count a.roots b.roots p.roots q.roots in
-    let accepted = one_count (λ index. IsValidAt q.made.history index q.date) count a.accepted b.accepted valid q.accepted in
+    let roots = count_once (IsRootAt (demo_history count)) count a.roots b.roots p.roots q.roots in
+    let accepted = count_once (λ index. IsValidAt q.made.history index q.date) count a.accepted b.accepted valid q.accepted in
     let sums = p.sum ∙ sym q.sum in
     λ i. record { steps = steps i; roots = roots i; accepted = accepted i; sum = sums i }

@@ -11,9 +11,12 @@ use Rattle.extension_types.specs.BasicConstraints.{basic_constraints, constraint
 use Rattle.demo_core.specs.Certificates.{authority_identifier, certificate_under, elements_under, own_identifier, signature_under, signer_of, small_contents, step_constraints, step_elements, step_extensions, step_key, step_name, step_rsa_key, step_tbs}
 use Rattle.demo_core.specs.Draws.{drawn, state_after}
 use Rattle.demo_core.specs.History.{demo_step, drawn_issuer}
-use Rattle.demo_core.specs.Size.{size, IsSmall, AreSmall}
+use Rattle.der_core.specs.Size.{size, IsSmall, AreSmall}
+use Rattle.demo_core.specs.Secrets.{step_modulus}
 use Rattle.demo_core.specs.declared.history.Step.{Step}
-use Rattle.demo_core.proofs.Sizes.{within_size}
+use Rattle.key_core.proofs.SmallRefusals.{key_size, key_small, rsa_small}
+use Rattle.demo_core.proofs.StepSubjects.{four_octets}
+use Rattle.der_core.proofs.Sizes.{within_size}
 
 either : (test : Bool) (a b : List ℕ) → length a ≤ 2 → length b ≤ 2 → length (if test then a else b) ≤ 2
 either true a b p q = p
@@ -37,15 +40,6 @@ constraints_nested false None = omega arith
 constraints_nested true (Some number) = omega arith
 constraints_nested false (Some number) = omega arith
 
-key_size : (index : ℕ) → size (step_key index) ≤ 100
-key_size index = omega (arith, within_size (step_rsa_key index))
-
-pub rsa_small : (index : ℕ) → IsSmall (step_rsa_key index)
-rsa_small index = record { nested = omega arith; light = omega arith }
-
-pub key_small : (index : ℕ) → IsSmall (step_key index)
-key_small index = record { nested = omega arith; light = omega (arith, key_size index) }
-
 own_size : (index : ℕ) → size (own_identifier index) ≡ 38
 own_size index = omega (arith, length-sha256 (encoding (step_key index)))
 
@@ -58,7 +52,7 @@ extensions_size index signer step =
 
 tbs_size : (index signer : ℕ) (step : Step) → index < 10 ^ 10 → signer < 10 ^ 10 → size (step_tbs index signer step) ≤ 1000
 tbs_size index signer step small_index small_signer =
-    omega (arith, small_number (index + 1), name_size index small_index, name_size signer small_signer, key_size index, extensions_size index signer step)
+    omega (arith, small_number (index + 1), name_size index small_index, name_size signer small_signer, key_size (step_modulus index) (four_octets index), extensions_size index signer step)
 
 certificate_size : (signer : ℕ) (tbs : DerElement) → size (certificate_under signer tbs) ≤ size tbs + 100
 certificate_size signer tbs =
@@ -67,8 +61,8 @@ certificate_size signer tbs =
 pub elements_small : (index signer : ℕ) (step : Step) → index < 10 ^ 10 → signer < 10 ^ 10 → AreSmall (elements_under index signer step)
 elements_small index signer step small_index small_signer =
     let tbs : size (step_tbs index signer step) ≤ 1000 = tbs_size index signer step small_index small_signer in
-    let rsa : IsSmall (step_rsa_key index) = rsa_small index in
-    let key : IsSmall (step_key index) = key_small index in
+    let rsa : IsSmall (step_rsa_key index) = rsa_small (step_modulus index) (four_octets index) in
+    let key : IsSmall (step_key index) = key_small (step_modulus index) (four_octets index) in
     let constraints : IsSmall (step_constraints step) = record { nested = omega (arith, constraints_nested step.ca step.path_length); light = omega (arith, constraints_size step.ca step.path_length) } in
     let own : IsSmall (own_identifier index) = record { nested = omega arith; light = omega (arith, own_size index) } in
     let authority : IsSmall (authority_identifier signer) = record { nested = omega arith; light = omega (arith, authority_size signer) } in

@@ -22,10 +22,12 @@ use Rattle.x509_issuing.specs.declared.builder.SubjectInfos.TheVariants as subje
 use Rattle.demo_core.specs.Builders.{HasSubject, IsBegun, IsStepBuilder, IsStepName, IsYearGiven}
 use Rattle.demo_core.specs.Certificates.{signer_of, step_key_id}
 use Rattle.demo_core.specs.Issuing.{IsOfSubject, IsRecordOf, IsStepKey}
-use Rattle.demo_core.specs.Secrets.{AreStepKeys, demo_pair, step_secret}
+use Rattle.key_core.specs.SmallKeys.{demo_pair}
+use Rattle.demo_core.specs.Secrets.{AreStepKeys, step_modulus, step_secret}
 use Rattle.demo_core.specs.declared.history.Step.{Step}
-use Rattle.demo_core.proofs.StepKeys.{keys_pair}
-use Rattle.demo_core.proofs.StepSubjects.{info_beside, keys_beside, keys_for}
+use Rattle.key_core.proofs.SmallKeys.{keys_pair}
+use Rattle.key_core.proofs.SmallHalves.{info_beside, keys_beside, keys_for}
+use Rattle.demo_core.proofs.StepSubjects.{four_octets}
 
 -- ---- a root
 
@@ -45,7 +47,7 @@ begun_root index step b given key none begun named private =
       given = refl;
       named = subst (λ (o : Option ℕ). IsStepName (signer_of index o) given) (sym none) named;
       public = info_beside key.now private.rsa private.container;
-      keys = subst (λ (o : Option ℕ). AreStepKeys (signer_of index o) key.now (info_beside key.now private.rsa private.container)) (sym none) (keys_beside index key.now private);
+      keys = subst (λ (o : Option ℕ). AreStepKeys (signer_of index o) key.now (info_beside key.now private.rsa private.container)) (sym none) (keys_beside (step_modulus index) key.now private);
       subject = subst (λ (o : Option ℕ). HasSubject index o set (self_issuer given key)) (sym none) refl;
       serial_number = begun.serial_number;
       algorithm = begun.algorithm;
@@ -88,7 +90,7 @@ under_set index issuer step b given own parent key authority by begun named owne
       given = refl;
       named = subst (λ (o : Option ℕ). IsStepName (signer_of index o) infos.name) (sym by) of.named;
       public = info_beside key.now private.rsa private.container;
-      keys = subst (λ (o : Option ℕ). AreStepKeys (signer_of index o) key.now (info_beside key.now private.rsa private.container)) (sym by) (keys_beside issuer key.now private);
+      keys = subst (λ (o : Option ℕ). AreStepKeys (signer_of index o) key.now (info_beside key.now private.rsa private.container)) (sym by) (keys_beside (step_modulus issuer) key.now private);
       subject = subst (λ (o : Option ℕ). HasSubject index o (under b given own parent key authority) infos) (sym by)
           (refl, record { authority = is; given = given; own = own; subject = refl; named = named; private = owned.private; keys = owned.keys });
       serial_number = begun.serial_number;
@@ -152,7 +154,7 @@ issued_takes index issuer step b parent key certificates recorded by set authori
         key = step_key_id issuer;
         had = subject.identified;
         authority = authority;
-        paired = keys_pair issuer key.now info (keys_for issuer subject.private key.now info subject.keys private);
+        paired = keys_pair (step_modulus issuer) (four_octets issuer) key.now info (keys_for (step_modulus issuer) subject.private key.now info subject.keys private);
       },
     ))
 

@@ -22,13 +22,15 @@ use Rattle.x509_issuing.specs.Building.{IsSignedCertificate, message_of, tbs_wri
 use Rattle.x509_issuing.specs.declared.builder.CertificateBuilder.{CertificateBuilder}
 use Rattle.x509_issuing.specs.declared.builder.IssuerInfos.{IssuerInfos}
 use Rattle.demo_core.specs.Builders.{IsStepBuilder}
-use Rattle.demo_core.specs.Certificates.{authority_identifier, own_identifier, signature_under, signer_of, step_certificate, step_constraints, step_rsa_key, step_tbs, with_null}
-use Rattle.demo_core.specs.Secrets.{demo_pair}
-use Rattle.demo_core.specs.Size.{AreSmall}
+use Rattle.key_core.specs.SmallKeys.{demo_pair, with_null}
+use Rattle.demo_core.specs.Certificates.{authority_identifier, own_identifier, signature_under, signer_of, step_certificate, step_constraints, step_rsa_key, step_tbs}
+use Rattle.der_core.specs.Size.{AreSmall}
 use Rattle.demo_core.specs.declared.history.Step.{Step}
+use Rattle.demo_core.specs.Secrets.{step_modulus}
 use Rattle.demo_core.proofs.Smallness.{elements_small}
 use Rattle.demo_core.proofs.StepInner.{inner_is}
-use Rattle.demo_core.proofs.StepKeys.{keys_pair, signature_is}
+use Rattle.key_core.proofs.SmallKeys.{keys_pair, signature_is}
+use Rattle.demo_core.proofs.StepSubjects.{four_octets}
 use Rattle.demo_core.proofs.StepParts.{algorithm_is}
 use Rattle.demo_core.proofs.StepTbs.{tbs_is}
 
@@ -56,9 +58,9 @@ certificate_is index step b issuer c small first last set made =
     subst (λ (a : SignatureAlgorithm). IsWrittenAlgorithm a c.tbs_certificate.signature) set.algorithm made.tbs.by.issued_by.signs in
     let algorithm = ap algorithm_identifier made.beside ∙ algorithm_is c.tbs_certificate.signature written in
     let accepted = subst (λ (a : SignatureAlgorithm). Accepts demo_verdict a set.public (message_of c.tbs_certificate) (payload_of c.signature_value)) set.algorithm
-    (made.accepted set.public (keys_pair signer issuer.key.now set.public set.keys)) in
+    (made.accepted set.public (keys_pair (step_modulus signer) (four_octets signer) issuer.key.now set.public set.keys)) in
     let signature : payload_of c.signature_value ≡ signature_under signer (encoding (step_tbs index signer step)) =
-    signature_is signer issuer.key.now set.public (message_of c.tbs_certificate) (payload_of c.signature_value) set.keys accepted
+    signature_is (step_modulus signer) issuer.key.now set.public (message_of c.tbs_certificate) (payload_of c.signature_value) set.keys accepted
     ∙ ap (λ (t : DerElement). signature_under signer (encoding t)) tbs in
     let bits : bit_string c.signature_value ≡ bit_octets (signature_under signer (encoding (step_tbs index signer step))) =
     ap (λ (u : ℕ). Primitive 0x03 (u ∷ payload_of c.signature_value)) made.unused ∙ ap (λ (p : List ℕ). bit_octets p) signature in

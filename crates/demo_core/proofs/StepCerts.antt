@@ -33,10 +33,11 @@ use Rattle.demo_core.specs.Builders.{IsStepBuilder}
 use Rattle.demo_core.specs.Certificates.{signer_of, step_key_id}
 use Rattle.demo_core.specs.History.{IsStepAt}
 use Rattle.demo_core.specs.Issuing.{IsStepCert}
-use Rattle.demo_core.specs.Secrets.{demo_pair, signs_by_demo}
+use Rattle.key_core.specs.SmallKeys.{demo_pair, signs_by_demo}
 use Rattle.demo_core.specs.declared.history.Step.{Step}
+use Rattle.demo_core.specs.Secrets.{step_modulus}
 use Rattle.demo_core.proofs.StepBuilding.{certificate_is}
-use Rattle.demo_core.proofs.StepKeys.{identifier_is}
+use Rattle.key_core.proofs.SmallKeys.{identifier_is}
 use Rattle.demo_core.proofs.StepRefusals.{built_or_memory}
 use Rattle.demo_core.proofs.StepTbs.{subject_is}
 
@@ -63,7 +64,7 @@ made_is index step b issuer cert small at set made =
     let value = cert.certificate.tbs_certificate in
     let subject = subject_is index step.issuer b issuer value.subject value.subject_public_key_info set.subject set.named set.keys.private tbs.issued_to.subject in
     let own : tbs.own ≡ step_key_id index =
-    identifier_is index subject.private value.subject_public_key_info tbs.own subject.keys
+    identifier_is (step_modulus index) subject.private value.subject_public_key_info tbs.own subject.keys
     (subst (λ (m : KeyIdGenMethod). IsKeyIdentifier m value.subject_public_key_info tbs.own) set.method tbs.issued_to.identified) in
     record {
       is = made.written ∙ certificate_is index step b issuer cert.certificate small at.begins at.ends set made.made;

@@ -24,7 +24,8 @@ use Rattle.x509_issuing.specs.declared.builder.IssuerInfos.{IssuerInfos}
 use Rattle.demo_core.specs.Builders.{IsStepBuilder}
 use Rattle.demo_core.specs.Certificates.{authority_identifier, own_identifier, signer_of, step_constraints, step_key_id, step_rsa_key}
 use Rattle.demo_core.specs.declared.history.Step.{Step}
-use Rattle.demo_core.proofs.StepKeys.{half_of, identifier_is, rsa_is}
+use Rattle.demo_core.specs.Secrets.{step_modulus}
+use Rattle.key_core.proofs.SmallKeys.{half_of, identifier_is, rsa_is}
 use Rattle.demo_core.proofs.StepTbs.{authority_is, none_inherited, subject_is, three, wanted_is}
 
 values_are : (index signer : ℕ) (step : Step) (b : CertificateBuilder) (issuer : IssuerInfos) (critical : Bool) (own authority : List ℕ) (made : List Extension)
@@ -50,7 +51,7 @@ pub inner_is : (index : ℕ) (step : Step) (b : CertificateBuilder) (issuer : Is
 inner_is index step b issuer tbs set built_for =
     let subject = subject_is index step.issuer b issuer tbs.subject tbs.subject_public_key_info set.subject set.named set.keys.private built_for.issued_to.subject in
     let own : built_for.own ≡ step_key_id index =
-    identifier_is index subject.private tbs.subject_public_key_info built_for.own subject.keys
+    identifier_is (step_modulus index) subject.private tbs.subject_public_key_info built_for.own subject.keys
     (subst (λ (m : KeyIdGenMethod). IsKeyIdentifier m tbs.subject_public_key_info built_for.own) set.method built_for.issued_to.identified) in
     let authority = authority_is index step.issuer b issuer built_for.own set.subject own in
     let built = built_for.by.built in
@@ -58,9 +59,9 @@ inner_is index step b issuer tbs set built_for =
     ap (λ (i : Bool). inherited issuer.self_signed i b.subject_infos) set.inherits ∙ none_inherited issuer.self_signed b.subject_infos in
     let listed : built_for.by.extensions ≡ built.made = built.are ∙ ap (with_others built.made) none in
     let values = values_are index (signer_of index step.issuer) step b issuer built.critical built_for.own _ built.made set own authority built.are_made in
-    let half = half_of index subject.private tbs.subject_public_key_info subject.keys in
+    let half = half_of (step_modulus index) subject.private tbs.subject_public_key_info subject.keys in
     ap (λ (k : SubjectKey). inner_key k ++ inner_option inner_extensions tbs.extensions) half.is
-    ∙ ap (λ (r : DerElement). r ∷ inner_option inner_extensions tbs.extensions) (rsa_is index subject.private tbs.subject_public_key_info subject.keys)
+    ∙ ap (λ (r : DerElement). r ∷ inner_option inner_extensions tbs.extensions) (rsa_is (step_modulus index) subject.private tbs.subject_public_key_info subject.keys)
     ∙ ap (λ (e : Option (List Extension)). step_rsa_key index ∷ inner_option inner_extensions e) built_for.by.given
     ∙ ap (λ (e : List Extension). step_rsa_key index ∷ inner_extensions e) listed
     ∙ ap (λ (i : List DerElement). step_rsa_key index ∷ i) values

@@ -18,7 +18,8 @@ use Rattle.names_core.specs.UtcDate.{IsTimeOf}
 use Rattle.sig_core.specs.declared.hash.HashAlgorithm.TheVariants.{SHA2_256}
 use Rattle.key_core.specs.SignatureAlgorithm.{IsWrittenAlgorithm}
 use Rattle.key_core.specs.declared.signature_algorithm.SignatureAlgorithm.TheVariants.{RsaPkcs1v15}
-use Rattle.demo_core.specs.Certificates.{small_contents, with_null, year_time}
+use Rattle.key_core.specs.SmallKeys.{with_null}
+use Rattle.demo_core.specs.Certificates.{small_contents, year_time}
 
 -- ---- the validity
 

@@ -34,10 +34,12 @@ use Rattle.x509_issuing.specs.declared.builder.SubjectInfos.{SubjectInfos}
 use Rattle.x509_issuing.specs.declared.builder.SubjectInfos.TheVariants as subjects
 use Rattle.demo_core.specs.Builders.{HasSubject, IsStepBuilder, IsYearGiven}
 use Rattle.demo_core.specs.Certificates.{signer_of}
-use Rattle.demo_core.specs.Secrets.{demo_pair, signs_by_demo, step_secret}
+use Rattle.key_core.specs.SmallKeys.{demo_pair, signs_by_demo}
+use Rattle.demo_core.specs.Secrets.{step_modulus, step_secret}
 use Rattle.demo_core.specs.declared.history.Step.{Step}
-use Rattle.demo_core.proofs.KeyRefusals.{half_or_memory, identifier_or_memory, signature_or_memory}
-use Rattle.demo_core.proofs.Sizes.{only_memory}
+use Rattle.key_core.proofs.SmallRefusals.{half_or_memory, identifier_or_memory, signature_or_memory}
+use Rattle.demo_core.proofs.StepSubjects.{four_octets}
+use Rattle.der_core.proofs.Sizes.{only_memory}
 use Rattle.demo_core.proofs.StepBuilding.{certificate_small, tbs_small}
 use Rattle.demo_core.proofs.StepTbs.{subject_is}
 
@@ -77,7 +79,7 @@ subjects_sure : (index : ℕ) (step_issuer : Option ℕ) (signer : ℕ) (b : Cer
     → AreSure (subject_steps demo_verdict issuer.self_signed b issuer ++ later)
 subjects_sure index None signer b issuer later self key are =
     subst (λ (s : Bool). AreSure (subject_steps demo_verdict s b issuer ++ later)) (sym self)
-    ((λ e refused. refused.1 ∙ ap no_half (half_or_memory signer issuer.key.now refused.0 key refused.2)), are)
+    ((λ e refused. refused.1 ∙ ap no_half (half_or_memory (step_modulus signer) issuer.key.now refused.0 key refused.2)), are)
 subjects_sure index (Some one) signer b issuer later (other, to) key are =
     subst (λ (s : Bool). AreSure (subject_steps demo_verdict s b issuer ++ later)) (sym other) (
       (λ e refused. absurd (is_given b.authority_key_identifier _ to.authority refused.0)),
@@ -96,13 +98,13 @@ built_or_memory index step b issuer e small small_signer first last set refuses 
     let identifier : (x : CertError) → (identifier_step demo_verdict b issuer).refused x → x ≡ errors.Memory =
     λ x (named, info, subject, (source, is, refused)).
     let of = subject_is index step.issuer b issuer named info set.subject set.named private subject in
-    is ∙ ap no_key_id (identifier_or_memory index of.private info source of.keys (subst (λ (m : KeyIdGenMethod). RefusesKeyIdentifier m info source) set.method refused)) in
+    is ∙ ap no_key_id (identifier_or_memory (step_modulus index) (four_octets index) of.private info source of.keys (subst (λ (m : KeyIdGenMethod). RefusesKeyIdentifier m info source) set.method refused)) in
     let algorithm : (x : CertError) → (algorithm_step b).refused x → x ≡ errors.Memory =
     λ x (source, is, refused). is ∙ ap signature_refusal (algorithm_or_memory source (subst (λ (a : SignatureAlgorithm). IsUnwritable a source) set.algorithm refused)) in
     let octets : (x : CertError) → (octets_step (arithmetic demo_verdict signs_by_demo demo_pair) b.signature_hash_type issuer.key.now (IsTbsFor demo_verdict b issuer (index + 1))).refused x → x ≡ errors.Memory =
     λ x (tbs, of, (source, is, refused)). is ∙ ap no_octets (only_memory (tbs_written tbs) source (tbs_small index step b issuer tbs small small_signer first last set of) refused) in
     let signature : (x : CertError) → (signature_step (arithmetic demo_verdict signs_by_demo demo_pair) b.signature_hash_type issuer.key.now (IsTbsFor demo_verdict b issuer (index + 1))).refused x → x ≡ errors.Memory =
-    λ x (tbs, of, (source, is, refused)). is ∙ ap no_signature (signature_or_memory signer issuer.key.now (message_of tbs) source private
+    λ x (tbs, of, (source, is, refused)). is ∙ ap no_signature (signature_or_memory (step_modulus signer) (four_octets signer) issuer.key.now (message_of tbs) source private
     (subst (λ (a : SignatureAlgorithm). RefusesSignatureBy (sign_rules signs_by_demo a issuer.key.now (message_of tbs)) source) set.algorithm refused)) in
     let whole : (x : CertError) → (whole_step (arithmetic demo_verdict signs_by_demo demo_pair) b.signature_hash_type issuer.key.now (IsTbsFor demo_verdict b issuer (index + 1))).refused x → x ≡ errors.Memory =
     λ x (c, of, (source, is, refused)). is ∙ ap (unwritten elements.Certificate) (only_memory (written_elements c) source (certificate_small index step b issuer c small small_signer first last set of) refused) in

@@ -44,10 +44,11 @@ use Rattle.x509_issuing.specs.declared.builder.CertificateBuilder.{CertificateBu
 use Rattle.x509_issuing.specs.declared.builder.IssuerInfos.{IssuerInfos}
 use Rattle.x509_issuing.specs.declared.builder.SubjectInfos.{SubjectInfos}
 use Rattle.demo_core.specs.Builders.{HasSubject, IsStepBuilder, IsYearGiven}
-use Rattle.demo_core.specs.Certificates.{authority_identifier, extension_of, own_identifier, signer_of, small_contents, step_constraints, step_extensions, step_key, step_key_id, step_name, step_tbs, with_null, year_time}
-use Rattle.demo_core.specs.Secrets.{AreStepKeys, step_secret}
+use Rattle.key_core.specs.SmallKeys.{with_null}
+use Rattle.demo_core.specs.Certificates.{authority_identifier, extension_of, own_identifier, signer_of, small_contents, step_constraints, step_extensions, step_key, step_key_id, step_name, step_tbs, year_time}
+use Rattle.demo_core.specs.Secrets.{AreStepKeys, step_modulus, step_secret}
 use Rattle.demo_core.specs.declared.history.Step.{Step}
-use Rattle.demo_core.proofs.StepKeys.{identifier_is, info_is}
+use Rattle.key_core.proofs.SmallKeys.{identifier_is, info_is}
 use Rattle.demo_core.proofs.StepParts.{algorithm_is, serial_is, time_is}
 
 -- ---- the subject and the issuer
@@ -185,7 +186,7 @@ tbs_is index step b issuer tbs small first_year last_year set built_for =
     let signer = signer_of index step.issuer in
     let subject = subject_is index step.issuer b issuer tbs.subject tbs.subject_public_key_info set.subject set.named set.keys.private built_for.issued_to.subject in
     let own : built_for.own ≡ step_key_id index =
-    identifier_is index subject.private tbs.subject_public_key_info built_for.own subject.keys
+    identifier_is (step_modulus index) subject.private tbs.subject_public_key_info built_for.own subject.keys
     (subst (λ (m : KeyIdGenMethod). IsKeyIdentifier m tbs.subject_public_key_info built_for.own) set.method built_for.issued_to.identified) in
     let authority = authority_is index step.issuer b issuer built_for.own set.subject own in
     let built = built_for.by.built in
@@ -207,7 +208,7 @@ tbs_is index step b issuer tbs small first_year last_year set built_for =
     let ends = time_is step.years.last built_for.to tbs.validity.not_after last_year (year_is step.years.last b.valid_to built_for.to set.ends built_for.valid_to) built_for.validity.ends in
     let valid : validity tbs.validity ≡ sequence (year_time step.years.first ∷ year_time step.years.last ∷ []) =
     ap₂ (λ (x y : DerElement). sequence (x ∷ y ∷ [])) begins ends in
-    let keyed = info_is index subject.private tbs.subject_public_key_info subject.keys in
+    let keyed = info_is (step_modulus index) subject.private tbs.subject_public_key_info subject.keys in
     ap (λ v. tbs_by v (integer_contents tbs.serial_number) (algorithm_identifier tbs.signature) (name tbs.issuer) (validity tbs.validity) (name tbs.subject) (public_key_info tbs.subject_public_key_info) tbs.issuer_unique_id tbs.subject_unique_id (option_map extensions tbs.extensions)) (ap (option_map version) built_for.by.version)
     ∙ ap (λ n. tbs_by (Some (integer_of (2 ∷ []))) n (algorithm_identifier tbs.signature) (name tbs.issuer) (validity tbs.validity) (name tbs.subject) (public_key_info tbs.subject_public_key_info) tbs.issuer_unique_id tbs.subject_unique_id (option_map extensions tbs.extensions)) serial
     ∙ ap (λ a. tbs_by (Some (integer_of (2 ∷ []))) (small_contents (index + 1)) a (name tbs.issuer) (validity tbs.validity) (name tbs.subject) (public_key_info tbs.subject_public_key_info) tbs.issuer_unique_id tbs.subject_unique_id (option_map extensions tbs.extensions)) algorithm

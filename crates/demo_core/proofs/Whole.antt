@@ -10,7 +10,8 @@ use Rattle.der_core.specs.Encoding.{encoding}
 use Rattle.x509_core.specs.Issued.{HasCert}
 use Rattle.x509_core.specs.KeptCertificate.{KeptCertificate, kept_octets}
 use Rattle.x509_core.proofs.Histories.{item_at}
-use Rattle.demo_core.specs.Acceptance.{IsCount, IsRootAt, IsValidCount}
+use Rattle.der_core.specs.Counting.{IsCount}
+use Rattle.demo_core.specs.Acceptance.{IsRootAt, IsValidCount}
 use Rattle.demo_core.specs.Builders.{IsYearGiven}
 use Rattle.demo_core.specs.Certificates.{demo_octets, step_certificate}
 use Rattle.demo_core.specs.Demonstration.{IsDemonstration}

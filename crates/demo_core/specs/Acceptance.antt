@@ -1,19 +1,13 @@
 -- Which certificates of a demonstration are accepted, and how many.
-use Rattle.std.specs.Prelude.{◌≡◌, ◌↔◌, ◌⊎◌, ℕ, zero, suc, ◌+◌, Bool, IsTrue, List, length, Some, None}
+use Rattle.std.specs.Prelude.{◌≡◌, ◌↔◌, ℕ, Bool, IsTrue, List, length, Some, None}
 use Rattle.std.specs.List.{slice_get}
+use Rattle.der_core.specs.Counting.{IsCount}
 use Rattle.asn1_types.specs.declared.generalized_time.GeneralizedTime.{GeneralizedTime}
 use Rattle.x509_core.specs.History.{AreAncestors, History, IsValidAt}
 use Rattle.x509_core.specs.Issued.{AreCertsAt}
 use Rattle.x509_core.specs.KeptCertificate.{KeptCertificate}
 use Rattle.demo_core.specs.Issuing.{IsHistoryOf}
 use Rattle.demo_core.specs.declared.history.Step.{Step}
-
--- of the numbers below this one, so many have the property
-abbrev pub IsCount : (ℕ → Type 0) → (below number : ℕ) → Type 0
-IsCount P zero number = number ≡ 0
-IsCount P (suc below) number =
-    (P below × ((others : ℕ) × (number ≡ others + 1) × IsCount P below others))
-    ⊎ ((P below → ⊥) × IsCount P below number)
 
 -- the step at this index is a root
 abbrev pub IsRootAt : List Step → ℕ → Type 0

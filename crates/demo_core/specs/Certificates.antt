@@ -4,25 +4,20 @@ use Rattle.std.specs.Prelude.{ℕ, ◌+◌, ◌%◌, nat_lt, if◌then◌else◌
 use Rattle.std.specs.List.{range_with_len}
 use Rattle.sha2.specs.Sha256.{sha256}
 use Rattle.der_core.specs.DerElement.{DerElement, Primitive}
-use Rattle.der_core.specs.Elements.{bit_octets, null, octet_string, sequence, set}
+use Rattle.der_core.specs.Elements.{bit_octets, octet_string, sequence, set}
 use Rattle.der_core.specs.Encoding.{encoding}
 use Rattle.asn1_types.specs.Elements.{integer_of, object_identifier_of}
 use Rattle.asn1_types.specs.Time.{two_digits}
-use Rattle.asn1_types.specs.declared.oids.TheConstants.{AT_COMMON_NAME, CE_AUTHORITY_KEY_IDENTIFIER, CE_BASIC_CONSTRAINTS, CE_SUBJECT_KEY_IDENTIFIER, RSA_ENCRYPTION, SHA256_WITH_RSA_ENCRYPTION}
-use Rattle.key_types.specs.AlgorithmIdentifier.{algorithm_of}
+use Rattle.asn1_types.specs.declared.oids.TheConstants.{AT_COMMON_NAME, CE_AUTHORITY_KEY_IDENTIFIER, CE_BASIC_CONSTRAINTS, CE_SUBJECT_KEY_IDENTIFIER, SHA256_WITH_RSA_ENCRYPTION}
 use Rattle.extension_types.specs.AuthorityKeyIdentifier.{authority_key_of}
 use Rattle.extension_types.specs.BasicConstraints.{basic_constraints, constraints_with}
 use Rattle.sig_core.specs.DemoScheme.{demo_signature}
-use Rattle.sig_core.specs.RsaSecret.{rsa_public_element}
 use Rattle.sig_core.specs.declared.algorithm.SigAlg.TheVariants.{RsaSha256}
+use Rattle.key_core.specs.SmallKeys.{small_key_info, small_rsa_key, with_null}
 use Rattle.x509_types.specs.TbsElements.{tbs_of}
 use Rattle.demo_core.specs.History.{demo_step}
 use Rattle.demo_core.specs.Secrets.{step_modulus}
 use Rattle.demo_core.specs.declared.history.Step.{Step}
-
--- an algorithm whose parameters are NULL (RFC 3279 2.2.1, 2.3.1)
-abbrev pub with_null : List ℕ → DerElement
-with_null oid = algorithm_of (object_identifier_of oid) (Some null)
 
 -- the name of the step of this index: the common name N and the index, as a UTF8String
 abbrev pub step_name : ℕ → DerElement
@@ -37,12 +32,11 @@ year_time year = Primitive 0x17 (two_digits (year % 100) ++ codes "0101000000Z")
 
 -- the RSAPublicKey (RFC 8017 A.1.1): the modulus is 1 and the index in three octets, the exponent 3
 abbrev pub step_rsa_key : ℕ → DerElement
-step_rsa_key index = rsa_public_element (step_modulus index) (3 ∷ [])
+step_rsa_key index = small_rsa_key (step_modulus index)
 
 -- the SubjectPublicKeyInfo (RFC 3279 2.3.1)
 abbrev pub step_key : ℕ → DerElement
-step_key index =
-    sequence (with_null RSA_ENCRYPTION.now ∷ bit_octets (encoding (step_rsa_key index)) ∷ [])
+step_key index = small_key_info (step_modulus index)
 
 -- the key identifier: the SHA-256 of the SubjectPublicKeyInfo
 abbrev pub step_key_id : ℕ → List ℕ

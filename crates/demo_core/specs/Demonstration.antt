@@ -5,7 +5,8 @@ use Rattle.sig_core.specs.VerdictTable.{newline}
 use Rattle.asn1_types.specs.declared.generalized_time.GeneralizedTime.{GeneralizedTime}
 use Rattle.x509_core.specs.History.{IsValidAt}
 use Rattle.x509_core.specs.KeptCertificate.{KeptCertificate}
-use Rattle.demo_core.specs.Acceptance.{IsCount, IsRootAt}
+use Rattle.der_core.specs.Counting.{IsCount}
+use Rattle.demo_core.specs.Acceptance.{IsRootAt}
 use Rattle.demo_core.specs.Builders.{IsYearGiven}
 use Rattle.demo_core.specs.Certificates.{demo_sum}
 use Rattle.demo_core.specs.History.{demo_history}

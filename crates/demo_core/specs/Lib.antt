@@ -4,7 +4,6 @@ pub mod Draws
 pub mod History
 pub mod Secrets
 pub mod Certificates
-pub mod Size
 pub mod Builders
 pub mod Issuing
 pub mod Acceptance

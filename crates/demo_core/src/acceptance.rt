@@ -9,7 +9,8 @@ ghost use Rattle.x509_core.specs.Issued.{HasCert};
 ghost use Rattle.x509_core.specs.Rules.{RefusesCertBy};
 ghost use Rattle.x509_core.specs.declared.error.CertError.TheVariants as errors;
 ghost use Rattle.x509_core.specs.declared.window.DateCheck.TheVariants as dates;
-ghost use Rattle.demo_core.specs.Acceptance.{AreParents, IsCount, IsRootAt, IsValidCount, IsValidity};
+ghost use Rattle.der_core.specs.Counting.{IsCount};
+ghost use Rattle.demo_core.specs.Acceptance.{AreParents, IsRootAt, IsValidCount, IsValidity};
 ghost use Rattle.demo_core.specs.Issuing.{AreStepCerts};
 ghost use Rattle.demo_core.specs.declared.history.Step.{Step};
 

@@ -1,4 +1,4 @@
-//! Laws on the size of elements, and on the keys of a demonstration.
+//! Laws on the keys and the certificates of a demonstration.
 
 ghost use Rattle.std.specs.Prelude.{◌≡◌, ℕ, true, Some, ◌+◌, ◌<◌, ◌≤◌, ◌^◌, List, length};
 ghost use Rattle.der_core.specs.DerElement.{DerElement};
@@ -46,16 +46,9 @@ ghost use Rattle.demo_core.specs.Demonstration.{IsDemonstration};
 ghost use Rattle.demo_core.specs.declared.demonstration.Demonstration.{Demonstration};
 ghost use Rattle.demo_core.specs.declared.history.Step.{Step};
 ghost use Rattle.demo_core.specs.History.{IsStepAt, demo_step};
-ghost use Rattle.demo_core.specs.Secrets.{AreStepKeys, demo_pair, signs_by_demo, step_secret};
-ghost use Rattle.demo_core.specs.Size.{size, AreSmall};
-
-/// An element isn't longer than its size, and small elements are written, unless memory runs out.
-pub fn small_elements_are_written()
-    ensures bounded { (element : DerElement) → length (encoding element) ≤ size element }
-    ensures short { (element : DerElement) → size element < 2 ^ 32 → IsShort element }
-    ensures only_memory { (elements : List DerElement) (e : DerError) → AreSmall elements
-        → RefusesInner elements e → e ≡ errors.Memory }
-{}
+ghost use Rattle.key_core.specs.SmallKeys.{demo_pair, signs_by_demo};
+ghost use Rattle.demo_core.specs.Secrets.{AreStepKeys, step_secret};
+ghost use Rattle.der_core.specs.Size.{size, AreSmall};
 
 /// Each element that is written for a certificate of a demonstration is small.
 pub fn certificates_are_small()

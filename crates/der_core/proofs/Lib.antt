@@ -4,6 +4,7 @@ pub mod Begins
 pub mod Elements
 pub mod Faults
 pub mod Exact
+pub mod Rereading
 pub mod Decided
 pub mod DecidedValues
 pub mod Nesting
@@ -20,3 +21,5 @@ pub mod Values
 pub mod RuleLists
 pub mod TakenSteps
 pub mod Digits
+pub mod Sizes
+pub mod Counting

@@ -1,6 +1,6 @@
 -- Promises, which public contracts cite: all but those named below.
 -- Rules, which the promises rest on: `Causes`.
--- Words of the crates above: `Lending`, `Rules`, `Steps`, `Counts`.
+-- Words of the crates above: `Lending`, `Rules`, `Steps`, `Counts`, `Counting`.
 -- Inside, which no public contract cites: `Facts`.
 pub mod DerElement
 pub mod Encoding
@@ -11,6 +11,7 @@ pub mod Causes
 pub mod Reading
 pub mod ErrorText
 pub mod Writing
+pub mod Size
 pub mod Kept
 pub mod Placed
 pub mod Cursor
@@ -26,4 +27,5 @@ pub mod Equality
 pub mod Rules
 pub mod Steps
 pub mod Counts
+pub mod Counting
 pub mod Facts

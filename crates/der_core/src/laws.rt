@@ -1,13 +1,17 @@
-//! Laws on encodings and faults.
+//! Laws on encodings, their sizes, and faults.
 
-ghost use Rattle.std.specs.Prelude.{◌≡◌, ◌↔◌, ℕ, ◌<◌, List, Ok, Err, MatchResult};
-ghost use Rattle.der_core.specs.Encoding.{encoding, nesting, IsDer, IsWellFormed, most_levels};
+ghost use Rattle.std.specs.Prelude.{◌≡◌, ◌↔◌, ℕ, ◌<◌, ◌≤◌, ◌^◌, List, length, Result, Ok, Err, MatchResult};
+ghost use Rattle.der_core.specs.DerElement.{DerElement};
+ghost use Rattle.der_core.specs.Encoding.{encoding, nesting, IsDer, IsShort, IsWellFormed, most_levels};
 ghost use Rattle.der_core.specs.Placed.{AreDer};
+ghost use Rattle.der_core.specs.Refusals.{RefusesInner, RefusesOctets};
+ghost use Rattle.der_core.specs.Size.{size, AreSmall};
 ghost use Rattle.der_core.specs.Structure.{IsWithin};
 ghost use Rattle.der_core.specs.Writing.{RefusesToWrite};
 ghost use Rattle.der_core.specs.Fault.{IsFirstFault};
 ghost use Rattle.der_core.specs.Head.{IsOctets, head_at, HasHead};
 ghost use Rattle.der_core.specs.Reading.{IsPrefixFree, HasNoFirst};
+ghost use Rattle.der_core.specs.declared.error.DerError.{DerError};
 ghost use Rattle.der_core.specs.declared.error.DerError.TheVariants as errors;
 ghost use Rattle.der_core.specs.declared.fault.DerFault.{DerFault};
 
@@ -55,6 +59,14 @@ pub fn read_back(alloc: Global, tree: &Tree) -> Result<Tree, DerError>
     read_exact(alloc, &octets)
 }
 
+/// An element isn't longer than its size, and small elements are written, unless memory runs out.
+pub fn small_elements_are_written()
+    ensures bounded { (element : DerElement) → length (encoding element) ≤ size element }
+    ensures short { (element : DerElement) → size element < 2 ^ 32 → IsShort element }
+    ensures only_memory { (elements : List DerElement) (e : DerError) → AreSmall elements
+        → RefusesInner elements e → e ≡ errors.Memory }
+{}
+
 /// Values of a structure are equal exactly if their encodings are, and the octets that are written
 /// for a value encode it.
 pub fn values_are_their_octets<T: Structure>()
@@ -62,4 +74,13 @@ pub fn values_are_their_octets<T: Structure>()
         → (encoding (T.written a) ≡ encoding (T.written b)) ↔ (a ≡ b) }
     ensures spelled { (value : T) → AreDer (T.inner value) → IsDer (T.written value)
         → IsWithin T.spells (encoding (T.written value)) value }
+{}
+
+/// Octets that encode a value are read as that value, or memory runs out: so says `answer` of
+/// [`Structure::from_der`].
+pub fn values_are_read_again<T: Structure>()
+    ensures { (octets : List ℕ) (value : T) (read : Result T DerError)
+        → IsWithin T.spells octets value
+        → MatchResult read (IsWithin T.spells octets) (RefusesOctets T.spells octets)
+        → MatchResult read (λ again. again ≡ value) (λ e. e ≡ errors.Memory) }
 {}

@@ -36,8 +36,8 @@ pub use fault::{DerFault, Malformed};
 pub use hexadecimal::write_hexadecimal;
 pub use kids::{Kids, three_kids, two_kids};
 pub use laws::{
-    no_encoding_begins_another, one_first_fault, read_back, tests_of_a_head,
-    values_are_their_octets,
+    no_encoding_begins_another, one_first_fault, read_back, small_elements_are_written,
+    tests_of_a_head, values_are_read_again, values_are_their_octets,
 };
 pub use leaves::{bit_octets_at, boolean_at, expect_leaf, leaf, leaf_at, write_boolean};
 pub use list::{

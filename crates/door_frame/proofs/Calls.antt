@@ -31,8 +31,6 @@ line_none false held none = none refl
 
 -- ---- calls
 
-}
-
 module _ {Job : Type 0} (program : Program Job) (words : List (List ℕ)) (files files_now : Files) (rest : List ℕ) (given faults room : ℕ)
     (low : (job : Job) (answer : Line) → IsAnswered (Some files) (program.question_of job) answer → answer.status ≤ 1)
     (out_now : SinkState) (held : List ℕ) (held_is : out_now.held ≡ Some held) (status : ℕ)

@@ -13,3 +13,7 @@ pub mod Signings
 pub mod KeyIdentifiers
 pub mod ComesBack
 pub mod RsaSecrets
+pub mod SmallSecrets
+pub mod SmallKeys
+pub mod SmallRefusals
+pub mod SmallHalves

@@ -1,6 +1,6 @@
 -- Promises, which public contracts cite: all but those named below; first `Verifying`, `Signing`.
 -- Rules, which the promises rest on: `PrivateKeyVersion`, `KeyAlgorithm`, `PrivateKeyFields`, `SchemeNames`.
--- Words of the crates above: `Keys`.
+-- Words of the crates above: `Keys`, `SmallKeys`.
 -- Inside, which no public contract cites: `Facts`.
 pub mod PrivateKeyVersion
 pub mod PrivateKeyValue
@@ -32,6 +32,7 @@ pub mod SchemeNames
 pub mod SignatureRules
 pub mod Verifying
 pub mod Signing
+pub mod SmallKeys
 pub mod SignatureErrorText
 pub mod KeyIdentifier
 pub mod Facts

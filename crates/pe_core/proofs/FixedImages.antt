@@ -1,10 +1,12 @@
 -- The octets that a signature is about fix where the parts of an image are, and what is in them.
-use Rattle.std.proofs.Common.{◌≡◌, ℕ, ◌+◌, ◌-◌, ◌≤◌, List, ◌++◌, length, take, drop, slice_range, true, sym, ap, ◌∙◌, arith, length-append, length-take, length-drop, append_assoc}
+use Rattle.std.proofs.Common.{◌≡◌, ℕ, ◌+◌, ◌-◌, ◌≤◌, List, ◌++◌, length, take, drop, slice_range, true, sym, ap, ◌∙◌, arith, length-append}
+use Rattle.std.proofs.Common.{length-take, length-drop, append_assoc}
 use Rattle.std.proofs.lemmas.List.{take-append-drop, take-append-le, drop-append-le}
 use Rattle.std.proofs.Math.Seq.{take-append_seam, drop-append_seam}
 use Rattle.std.specs.Int.{w16, w32, from_le_bytes}
 use Rattle.pe_core.specs.Bound.{bound_octets, head_of, middle_of, rest_of, HaveSameParts}
-use Rattle.pe_core.specs.Fields.{u16_at, u32_at, mark_offset, header_offset, checksum_offset, entry_offset, table_offset, magic_of, format_of, directories_offset}
+use Rattle.pe_core.specs.Fields.{u16_at, u32_at, mark_offset, header_offset, checksum_offset, entry_offset, table_offset, magic_of, format_of}
+use Rattle.pe_core.specs.Fields.{directories_offset}
 use Rattle.pe_core.specs.Image.{IsSignedImage}
 use Rattle.pe_core.proofs.Parts.{bound_in_parts, far_enough, length_of}
 

@@ -1,75 +1,29 @@
 -- Results for the same octets of certificates are of one kind.
-use Rattle.std.proofs.Common.{◌≡◌, ◌⊎◌, ℕ, List, [], ◌∷◌, ◌++◌, map, Option, Some, Result, Ok, Err, inl, inr, refl, sym, ap, subst, ◌∙◌}
+use Rattle.std.proofs.Common.{◌≡◌, ◌⊎◌, ℕ, List, [], ◌∷◌, ◌++◌, Option, Some, Result, Ok, Err, inl, inr, refl, sym, ap, subst, ◌∙◌}
 use Rattle.std.specs.Prelude.{codes}
-use Rattle.std.proofs.Math.Logic.{∥∥₁_elim}
 use Rattle.asn1_types.specs.declared.generalized_time.GeneralizedTime.{GeneralizedTime}
-use Rattle.der_core.specs.Refusals.{RefusesOctets}
 use Rattle.der_core.specs.Rules.{IsFirstBroken}
 use Rattle.der_core.specs.declared.error.DerError.{DerError}
 use Rattle.der_core.specs.declared.error.DerError.TheVariants as der
-use Rattle.der_core.proofs.Exact.{no_fault_where_whole, whole_once}
 use Rattle.key_core.specs.Verifying.{Judge}
 use Rattle.key_core.specs.declared.element.Element.TheVariants as elements
-use Rattle.x509_types.specs.Certificate.{IsCertificate}
-use Rattle.x509_types.specs.CertificateElements.{certificate_of}
 use Rattle.x509_types.specs.declared.certificate.Certificate.{Certificate}
 use Rattle.x509_core.specs.CertRefusals.{unread}
 use Rattle.x509_core.specs.ErrorName.{cert_error_name}
 use Rattle.x509_core.specs.Chain.{IsAccepted, chain_rules}
-use Rattle.x509_core.specs.KeptCertificate.{KeptCertificate, kept_octets}
-use Rattle.x509_core.specs.Facts.Certs.{kept_once}
+use Rattle.x509_core.specs.KeptCertificate.{KeptCertificate}
+use Rattle.x509_core.proofs.KeptOctets.{same_certificates, unread_for_memory}
 use Rattle.x509_core.specs.declared.error.CertError.{CertError}
 use Rattle.x509_core.specs.declared.error.CertError.TheVariants as cert
 use Rattle.x509_core.specs.declared.validator.ChainChecks.{ChainChecks}
 use Rattle.program_frame.specs.declared.report.Report.{Report}
 use Rattle.program_frame.specs.declared.stop.Stop.{Stop}
 use Rattle.picky_check.specs.Answer.{IsCertificateAnswer}
-use Rattle.picky_check.specs.ChainAnswer.{AreKeptCertificates, IsFirstUnread, IsChainJudged, IsChainAnswer, all_checks}
+use Rattle.x509_core.specs.KeptCertificates.{AreKeptCertificates, IsFirstUnread}
+use Rattle.picky_check.specs.ChainAnswer.{IsChainJudged, IsChainAnswer, all_checks}
 use Rattle.picky_check.specs.Report.{Answer, OfSignature, OfChain, IsOutOfMemory}
 use Rattle.picky_check.specs.Inquiry.{IsReported, GivesReport, Reports}
 use Rattle.picky_check.proofs.Reported.{reported_is, out_of_memory, GivesReport-reported}
-
--- ---- octets that are a certificate are read as it
-
-same_certificate : (a b : KeptCertificate) → kept_octets a ≡ kept_octets b → a ≡ b
-same_certificate a b same = kept_once a b (whole_once (kept_octets a) (certificate_of a.elements) (certificate_of b.elements) a.der b.der refl same)
-
-same_certificates : (xs ys : List KeptCertificate) → map kept_octets xs ≡ map kept_octets ys → xs ≡ ys
-same_certificates [] [] same = refl
-same_certificates [] (y ∷ ys) same = absurd cc
-same_certificates (x ∷ xs) [] same = absurd cc
-same_certificates (x ∷ xs) (y ∷ ys) same =
-    let first = same_certificate x y (cc) in
-    let others = same_certificates xs ys (cc) in
-    cc
-
-spells_none : (kept : KeptCertificate) → ((c : Certificate) → IsCertificate (certificate_of kept.elements) c → ⊥) → ⊥
-spells_none kept none = ∥∥₁_elim kept.spelled (λ x y. absurd x) (λ are. none kept.certificate (record { elements = kept.elements; is = refl; spelled = are }))
-
--- octets of a certificate are refused only when out of memory
-refused_for_memory : (kept : KeptCertificate) (octets : List ℕ) (source : DerError) → kept_octets kept ≡ octets → RefusesOctets IsCertificate octets source → source ≡ der.Memory
-refused_for_memory kept octets (der.Malformed m) is refused =
-    absurd (no_fault_where_whole octets (certificate_of kept.elements) m.at m.fault kept.der (sym is) refused)
-refused_for_memory kept octets der.Shape is refused =
-    let same = whole_once octets refused.element (certificate_of kept.elements) refused.der kept.der refused.encoded (sym is) in
-    absurd (spells_none kept (λ c spelled. refused.none c (subst (λ e. IsCertificate e c) (sym same) spelled)))
-refused_for_memory kept octets der.TooDeep is refused = absurd refused
-refused_for_memory kept octets der.TooLong is refused = absurd refused
-refused_for_memory kept octets der.Memory is refused = refl
-
--- octets among those of certificates are a certificate's
-kept_behind : (read certificates : List KeptCertificate) (octets : List ℕ) (others : List (List ℕ)) → map kept_octets certificates ≡ map kept_octets read ++ octets ∷ others
-    → (kept : KeptCertificate) × (kept_octets kept ≡ octets)
-kept_behind [] [] octets others same = absurd cc
-kept_behind [] (kept ∷ certificates) octets others same = (kept, cc)
-kept_behind (one ∷ read) [] octets others same = absurd cc
-kept_behind (one ∷ read) (kept ∷ certificates) octets others same = kept_behind read certificates octets others (cc)
-
--- if all are certificates, none is refused except for out of memory
-unread_is_memory : (octets : List (List ℕ)) (certificates : List KeptCertificate) (e : CertError) → AreKeptCertificates octets certificates → IsFirstUnread octets e → e ≡ cert.Memory
-unread_is_memory octets certificates e are h =
-    let kept = kept_behind h.read certificates h.unread h.others (are ∙ h.are) in
-    h.refused.1 ∙ ap (unread elements.Certificate) (refused_for_memory kept.0 h.unread h.refused.0 kept.1 h.refused.2)
 
 -- one is out of memory, or they have one name
 abbrev IsNamedAlike : CertError → CertError → Type 0
@@ -134,7 +88,7 @@ module _ (unbroken : (judge : Judge) (checks : ChainChecks) (checked : KeptCerti
       → IsChainAnswer judge date octets (Ok count) → IsChainAnswer judge date octets (Err e) → e ≡ cert.Memory
   refused_is_memory judge date octets count e accepted (inl unread) =
       let parts = accepted_parts judge date octets count accepted in
-      unread_is_memory octets parts.0 e parts.1 unread
+      unread_for_memory octets parts.0 e parts.1 unread
   refused_is_memory judge date octets count e accepted (inr judged) =
       let parts = accepted_parts judge date octets count accepted in
       not_both judge date parts.0 count e parts.2
@@ -151,8 +105,8 @@ module _ (unbroken : (judge : Judge) (checks : ChainChecks) (checked : KeptCerti
   one_name : (judge : Judge) (date : GeneralizedTime) (octets : List (List ℕ)) (e f : CertError)
       → IsChainAnswer judge date octets (Err e) → IsChainAnswer judge date octets (Err f) → IsNamedAlike e f
   one_name judge date octets e f (inl a) (inl b) = unread_alike octets e f a b
-  one_name judge date octets e f (inl a) (inr b) = inl (unread_is_memory octets b.0 e b.1 a)
-  one_name judge date octets e f (inr a) (inl b) = inr (inl (unread_is_memory octets a.0 f a.1 b))
+  one_name judge date octets e f (inl a) (inr b) = inl (unread_for_memory octets b.0 e b.1 a)
+  one_name judge date octets e f (inr a) (inl b) = inr (inl (unread_for_memory octets a.0 f a.1 b))
   one_name judge date octets e f (inr a) (inr b) =
       judged_alike judge date a.0 e f a.2 (subst (λ (cs : List KeptCertificate). IsChainJudged judge date cs (Err f)) (same_certificates b.0 a.0 (b.1 ∙ sym a.1)) b.2)
 

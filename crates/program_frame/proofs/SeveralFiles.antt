@@ -61,8 +61,6 @@ rises_with octets contents more before between after first rest =
     let total = sum_by-cons (λ (o : List ℕ). length o) octets contents in
     subst (λ (n : ℕ). RisesBy n before after) (omega (arith, total)) all
 
-}
-
 module _ (before between after : ShelfState) (name : List ℕ) (names : List (List ℕ)) (e : FileError) where
   long_ahead : (long : e ≡ file.TooLong → IsSome before.files → IsLongFile before.files name)
       → (missing : IsMissingFile before.files name → e ≡ file.Fault)

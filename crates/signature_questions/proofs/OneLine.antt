@@ -1,5 +1,5 @@
 -- There is one line to report about files.
-use Rattle.std.proofs.Common.{◌≡◌, ℕ, List, [], ◌∷◌, false, None, inl, inr, refl, sym, ap, subst, ◌∙◌}
+use Rattle.std.proofs.Common.{◌≡◌, ℕ, List, ◌∷◌, false, inl, inr, sym, ap, subst, ◌∙◌}
 use Rattle.cms_types.specs.SignedDataElements.{SignedDataElements}
 use Rattle.program_frame.specs.Question.{Line}
 use Rattle.x509_core.specs.KeptCertificate.{KeptCertificate}
@@ -9,11 +9,12 @@ use Rattle.authenticode_core.specs.declared.error.CheckError.{CheckError}
 use Rattle.authenticode_core.specs.declared.policy.Policy.{Policy}
 use Rattle.authenticode_core.proofs.OneAnswer.{FaultsAreOne, FaultsExclude, one_refusal, refused_there, value_refuses}
 use Rattle.authenticode_core.proofs.OneData.{one_data}
-use Rattle.signature_questions.specs.Commands.{AreKeptCertificates, IsChainLine, IsSignatureLine}
+use Rattle.signature_questions.specs.Commands.{IsChainLine, IsSignatureLine}
 use Rattle.signature_questions.specs.Lines.{question_lines, refused_chain_line, refused_line}
 use Rattle.signature_questions.specs.Listed.{AreOfChain, AreQuestions}
 use Rattle.signature_questions.proofs.OneList.{chain_once, questions_once}
-use Rattle.signature_questions.proofs.ReadCauses.{none_refused, one_cause, same_certificates}
+use Rattle.x509_core.proofs.KeptOctets.{same_certificates}
+use Rattle.signature_questions.proofs.ReadCauses.{none_refused, one_cause}
 
 same_line : (a b : Line) → a.status ≡ b.status → a.text ≡ b.text → a ≡ b
 same_line a b s t = λ i. record { status = s i; text = t i }

@@ -1,49 +1,20 @@
 -- Octets are those of one list of certificates, or refused for one cause, out of memory aside.
-use Rattle.std.proofs.Common.{◌≡◌, ◌≢◌, ℕ, List, [], ◌∷◌, ◌++◌, map, refl, sym, ap, ap₂, subst, ◌∙◌}
-use Rattle.std.proofs.Math.Logic.{∥∥₁_elim}
+use Rattle.std.proofs.Common.{◌≡◌, ◌≢◌, ℕ, List, [], ◌∷◌, ◌++◌, map, refl, sym, ap, subst, ◌∙◌}
 use Rattle.der_core.specs.Refusals.{RefusesOctets}
 use Rattle.der_core.specs.declared.error.DerError.{DerError}
 use Rattle.der_core.specs.declared.error.DerError.TheVariants as der
-use Rattle.der_core.proofs.Exact.{no_fault_where_whole, refused_exactly, whole_once}
+use Rattle.der_core.proofs.Exact.{no_fault_where_whole, refused_exactly}
 use Rattle.key_core.specs.declared.element.Element.TheVariants as elements
 use Rattle.x509_types.specs.Certificate.{IsCertificate}
-use Rattle.x509_types.specs.CertificateElements.{certificate_of}
 use Rattle.x509_types.specs.declared.certificate.Certificate.{Certificate}
 use Rattle.x509_core.specs.CertRefusals.{IsUnreadCert, unread}
-use Rattle.x509_core.specs.Facts.Certs.{kept_once}
+use Rattle.x509_core.proofs.KeptOctets.{refused_for_memory}
 use Rattle.x509_core.specs.KeptCertificate.{KeptCertificate, kept_octets}
 use Rattle.x509_core.specs.declared.error.CertError.{CertError}
 use Rattle.x509_core.specs.declared.error.CertError.TheVariants as cert
-use Rattle.signature_questions.specs.Commands.{IsFirstUnread, IsRefusedCertificate}
+use Rattle.signature_questions.specs.Commands.{IsRefusedCertificate}
 
--- ---- octets that are a certificate are read as it
-
-same_certificate : (a b : KeptCertificate) → kept_octets a ≡ kept_octets b → a ≡ b
-same_certificate a b same = kept_once a b (whole_once (kept_octets a) (certificate_of a.elements) (certificate_of b.elements) a.der b.der refl same)
-
-pub same_certificates : (xs ys : List KeptCertificate) → map kept_octets xs ≡ map kept_octets ys → xs ≡ ys
-same_certificates [] [] same = refl
-same_certificates [] (y ∷ ys) same = absurd cc
-same_certificates (x ∷ xs) [] same = absurd cc
-same_certificates (x ∷ xs) (y ∷ ys) same =
-    let first = same_certificate x y (cc) in
-    let others = same_certificates xs ys (cc) in
-    cc
-
-spells_none : (kept : KeptCertificate) → ((c : Certificate) → IsCertificate (certificate_of kept.elements) c → ⊥) → ⊥
-spells_none kept none = ∥∥₁_elim kept.spelled (λ x y. absurd x) (λ are. none kept.certificate (record { elements = kept.elements; is = refl; spelled = are }))
-
-refused_for_memory : (kept : KeptCertificate) (octets : List ℕ) (source : DerError) → kept_octets kept ≡ octets → RefusesOctets IsCertificate octets source → source ≡ der.Memory
-refused_for_memory kept octets (der.Malformed m) is refused =
-    absurd (no_fault_where_whole octets (certificate_of kept.elements) m.at m.fault kept.der (sym is) refused)
-refused_for_memory kept octets der.Shape is refused =
-    let same = whole_once octets refused.element (certificate_of kept.elements) refused.der kept.der refused.encoded (sym is) in
-    absurd (spells_none kept (λ c spelled. refused.none c (subst (λ e. IsCertificate e c) (sym same) spelled)))
-refused_for_memory kept octets der.TooDeep is refused = absurd refused
-refused_for_memory kept octets der.TooLong is refused = absurd refused
-refused_for_memory kept octets der.Memory is refused = refl
-
--- ---- octets that aren't
+-- ---- octets that aren't a certificate
 
 one_source : (octets : List ℕ) (s t : DerError) → s ≢ der.Memory → t ≢ der.Memory → RefusesOctets IsCertificate octets s → RefusesOctets IsCertificate octets t → s ≡ t
 one_source octets (der.Malformed m) (der.Malformed n) a b p q = ap der.Malformed (refused_exactly octets n.at n.fault m q p)

@@ -1,61 +1,12 @@
--- Chains that grow by one certificate, and the certificates at indices of a pool.
-use Rattle.std.proofs.Common.{◌≡◌, ◌⊎◌, ℕ, suc, ◌-◌, ◌<◌, ◌≤◌, List, [], ◌∷◌, ◌++◌, get_or, length, Option, Some, None, IsSome, inl, inr, refl, sym, ap, subst, ◌∙◌, arith}
+-- The certificates at indices of a pool.
+use Rattle.std.proofs.Common.{◌≡◌, ◌⊎◌, ℕ, suc, ◌-◌, ◌<◌, ◌≤◌, List, [], ◌∷◌, ◌++◌, length, Option, Some, IsSome, inl, inr, refl, sym, ap, subst, arith}
 use Rattle.std.specs.Prelude.{slice_get}
 use Rattle.std.proofs.lemmas.Bool.{cases_lt, false≢true}
-use Rattle.std.proofs.lemmas.Option.{slice_get-get_or, slice_get_past}
+use Rattle.std.proofs.lemmas.Option.{slice_get_past}
 use Rattle.x509_core.specs.Chain.{last_of}
 use Rattle.x509_core.specs.KeptCertificate.{KeptCertificate}
 use Rattle.trust_anchors.specs.AnchoredPath.{AreAt}
 use Rattle.trust_anchors.specs.Inside.Trails.{end_from}
-
-module _ {K : Type 0} where
-  empty_is_not : (before after : List K) (parent : K) → [] ≡ before ++ parent ∷ after → ⊥
-  empty_is_not [] after parent e = absurd cc
-  empty_is_not (b ∷ before) after parent e = absurd cc
-
-  assoc : (a b c : List K) → (a ++ b) ++ c ≡ a ++ (b ++ c)
-  assoc [] b c = refl
-  assoc (x ∷ a) b c = ap (λ (zs : List K). x ∷ zs) (assoc a b c)
-
-  -- an index in a list with one more member is the last one, or one in the list
-  abbrev IsPlace : (xs before : List K) (x parent : K) → Type 0
-  IsPlace xs before x parent = ((xs ≡ before) × (x ≡ parent)) ⊎ ((rest : List K) × (xs ≡ before ++ parent ∷ rest))
-
-  further : (y b : K) (xs before : List K) (x parent : K) → y ≡ b → IsPlace xs before x parent → IsPlace (y ∷ xs) (b ∷ before) x parent
-  further y b xs before x parent same (inl (p, q)) = inl (ap (λ (zs : List K). y ∷ zs) p ∙ ap (λ (z : K). z ∷ before) same, q)
-  further y b xs before x parent same (inr (rest, p)) = inr (rest, ap (λ (zs : List K). y ∷ zs) p ∙ ap (λ (z : K). z ∷ (before ++ parent ∷ rest)) same)
-
-  place : (xs before after : List K) (x parent : K) → xs ++ x ∷ [] ≡ before ++ parent ∷ after → IsPlace xs before x parent
-  place [] [] after x parent e = inl (refl, cc)
-  place [] (b ∷ before) after x parent e =
-      let none : [] ≡ before ++ parent ∷ after = cc in
-      absurd (empty_is_not before after parent none)
-  place (y ∷ xs) [] after x parent e =
-      let same : y ≡ parent = cc in
-      inr (xs, ap (λ (z : K). z ∷ xs) same)
-  place (y ∷ xs) (b ∷ before) after x parent e =
-      let same : y ≡ b = cc in
-      let rest : xs ++ x ∷ [] ≡ before ++ parent ∷ after = cc in
-      further y b xs before x parent same (place xs before after x parent rest)
-
-module _ {K : Type 0} (Link : ℕ → K → K → Type 0) (checked : K) where
-  abbrev pub Linked : List K → Type 0
-  Linked parents = (before after : List K) (parent : K) → parents ≡ before ++ parent ∷ after → Link (length before) parent (last_of checked before)
-
-  pub linked_none : Linked []
-  linked_none before after parent e = absurd (empty_is_not before after parent e)
-
-  pub linked_more : (xs : List K) (x : K) → Linked xs → Link (length xs) x (last_of checked xs) → Linked (xs ++ x ∷ [])
-  linked_more xs x linked link before after parent e = by (place xs before after x parent e)
-    where
-      by : IsPlace xs before x parent → Link (length before) parent (last_of checked before)
-      by (inl (p, q)) = subst (λ (b : List K). Link (length b) parent (last_of checked b)) p (subst (λ (y : K). Link (length xs) y (last_of checked xs)) q link)
-      by (inr (rest, p)) = linked before rest parent p
-
-  pub linked_front : (xs ys : List K) → Linked (xs ++ ys) → Linked xs
-  linked_front xs ys linked before after parent e = linked before (after ++ ys) parent (ap (λ (zs : List K). zs ++ ys) e ∙ assoc before (parent ∷ after) ys)
-
--- ---- certificates at indices
 
 pub end_more : (pool : List KeptCertificate) (end : Option KeptCertificate) (indices : List ℕ) (index : ℕ) → end_from pool end (indices ++ index ∷ []) ≡ slice_get pool index
 end_more pool end [] index = refl

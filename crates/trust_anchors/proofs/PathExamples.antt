@@ -12,7 +12,7 @@ use Rattle.trust_anchors.specs.FirstPath.{IsNotAfter}
 use Rattle.trust_anchors.specs.declared.anchor.Anchor.{Anchor}
 use Rattle.trust_anchors.specs.declared.anchor.Purpose.TheVariants as purposes
 use Rattle.trust_anchors.specs.declared.path.AnchoredPath.{AnchoredPath}
-use Rattle.trust_anchors.proofs.Chains.{linked_more, linked_none}
+use Rattle.x509_core.proofs.Chains.{linked_more, linked_none}
 
 module _ {X : Type 0} where
   only_one : (x : X) (index : ℕ) (y : X) → slice_get (x ∷ []) index ≡ Some y → x ≡ y

@@ -14,7 +14,8 @@ use Rattle.trust_anchors.specs.Inside.Trails.{EndsAtAnchor, HasAnchor, HasNoneSh
 use Rattle.trust_anchors.specs.declared.anchor.Anchor.{Anchor}
 use Rattle.trust_anchors.specs.declared.anchor.Purpose.{Purpose}
 use Rattle.trust_anchors.specs.declared.path.AnchoredPath.{AnchoredPath}
-use Rattle.trust_anchors.proofs.Chains.{as_many, end_at, linked_front}
+use Rattle.x509_core.proofs.Chains.{linked_front}
+use Rattle.trust_anchors.proofs.Chains.{as_many, end_at}
 use Rattle.trust_anchors.proofs.Orders.{not_before_itself, not_both_before, up_to_cases, up_to_trans}
 use Rattle.trust_anchors.proofs.Trails.{Linking, ends_linked}
 

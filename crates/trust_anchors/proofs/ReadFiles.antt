@@ -13,7 +13,7 @@ use Rattle.trust_anchors.specs.Inquiry.{AppendsAnchors, AppendsRead, IsUnread}
 use Rattle.trust_anchors.specs.declared.anchor.Anchor.{Anchor}
 use Rattle.trust_anchors.specs.declared.reading.ReadError.{ReadError}
 use Rattle.trust_anchors.specs.declared.reading.ReadError.TheVariants as read_error
-use Rattle.trust_anchors.proofs.Certificates.{refused_for_memory}
+use Rattle.x509_core.proofs.KeptOctets.{refused_for_memory}
 
 -- octets that are refused are no certificate, unless memory ran out
 pub unread_one : (octets : List ℕ) (e : CertError) (r : ReadError) → IsUnreadCert elements.Certificate (RefusesOctets IsCertificate octets) e

@@ -9,7 +9,8 @@ use Rattle.x509_core.specs.KeptCertificate.{KeptCertificate}
 use Rattle.x509_core.specs.Link.{IsLink}
 use Rattle.trust_anchors.specs.FirstPath.{IsBefore}
 use Rattle.trust_anchors.specs.Inside.Trails.{Continues, HasAsGood, IsFirstOf, IsLayer, IsLayerUpTo, IsTrail, IsUpTo, Sought, end_of}
-use Rattle.trust_anchors.proofs.Chains.{as_many, at_more, end_at, end_more, linked_front, linked_more, linked_none, split_at}
+use Rattle.x509_core.proofs.Chains.{linked_front, linked_more, linked_none}
+use Rattle.trust_anchors.proofs.Chains.{as_many, at_more, end_at, end_more, split_at}
 use Rattle.trust_anchors.proofs.Orders.{up_to_before, up_to_itself, up_to_more, up_to_trans, up_to_unless_before}
 
 -- ---- of some trails the first for which a rule holds
@@ -129,8 +130,6 @@ module _ (s : Sought) where
       by : (indices : List ℕ) → length indices ≡ 0 → HasAsGood s ([] ∷ []) indices
       by [] short = ([], Contains-push [] [], refl, up_to_itself [])
       by (i ∷ indices) short = absurd (omega (arith, short))
-
-  }
 
   -- every list is empty, or has a last member
   abbrev HasLast : List ℕ → Type 0

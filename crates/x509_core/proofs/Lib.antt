@@ -6,6 +6,8 @@ pub mod Names
 pub mod FirstOfIdentifier
 pub mod DistinctExtensions
 pub mod ReadCerts
+pub mod ReadCertificates
+pub mod KeptOctets
 pub mod Links
 pub mod Parts
 pub mod Alike

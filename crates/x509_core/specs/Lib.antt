@@ -17,6 +17,7 @@ pub mod Chain
 pub mod History
 pub mod Issued
 pub mod CertRefusals
+pub mod KeptCertificates
 pub mod Spellings
 pub mod CsrErrorText
 pub mod ErrorText

@@ -1,4 +1,4 @@
-//! Certificates: reading them, stored with their octets, and access to their fields; whether one
+//! Certificates: reading them, one or several, stored with their octets, and access to their fields; whether one
 //! may be the parent of another, and whether some are a chain. Laws on issuing histories. The errors
 //! of certification requests.
 #![tactic(auto)]
@@ -17,6 +17,7 @@ mod laws;
 mod link;
 mod parent;
 mod places;
+mod reading;
 mod validator;
 mod viewed;
 mod window;
@@ -34,5 +35,6 @@ pub use key_core::Element;
 pub use laws::{certificates_are_written_as_read, elements_and_values_say_the_same};
 pub use parent::names_agree;
 pub use places::Places;
+pub use reading::read_certificates;
 pub use validator::{CertValidator, ChainChecks};
 pub use window::{DateCheck, Window};

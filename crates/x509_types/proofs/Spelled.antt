@@ -71,8 +71,6 @@ all_fit f version serial signature issuer valid subject key extensions = (
   },
 )
 
-}
-
 -- if a part encodes nothing, the whole encodes nothing
 pub no_issued_by : (f : TbsElements) (e : DerError) → RefusesShape (IsIssuedBy f) e → RefusesShape (AreTbsFields f) e
 no_issued_by f e =

@@ -1,11 +1,11 @@
 use Rattle.std.proofs.Common.{arith}
 use Rattle.ca_register.specs.Counting.{IsAcceptedAt, IsUsableAt}
-use Rattle.ca_register.proofs.Counts.{count_low, count_more}
+use Rattle.der_core.proofs.Counting.{count_low, count_more}
 use Rattle.ca_register.proofs.counting.accepted_count.Goals as goal
 
 pub counted-accepted-requires : goal.counted-accepted-requires
 counted-accepted-requires g c =
-    record { few = count_low (IsUsableAt c.args.register.now.entries.items c.args.date.now) c.loop-place.place c.loop-place.accepted c.loop-place.invariant.usable (omega (arith, c.loop-place-test.true, c.requires.few)) }
+    record { few = count_low (IsUsableAt c.args.register.now.entries.items c.args.date.now) c.loop-place.place c.loop-place.accepted 200 c.loop-place.invariant.usable (omega (arith, c.loop-place-test.true, c.requires.few)) }
 
 pub loop-place-preserved : goal.loop-place-preserved
 loop-place-preserved g c =

@@ -1,5 +1,6 @@
 use Rattle.ca_register.specs.Authorities.{IsRegister}
-use Rattle.ca_register.specs.Counting.{IsAcceptedAt, IsCount, IsUsableAt}
+use Rattle.der_core.specs.Counting.{IsCount}
+use Rattle.ca_register.specs.Counting.{IsAcceptedAt, IsUsableAt}
 use Rattle.ca_register.proofs.counting.accepted_count.Given as goal
 
 -- those that are accepted so far

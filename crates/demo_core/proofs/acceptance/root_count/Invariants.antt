@@ -1,4 +1,5 @@
-use Rattle.demo_core.specs.Acceptance.{IsCount, IsRootAt}
+use Rattle.der_core.specs.Counting.{IsCount}
+use Rattle.demo_core.specs.Acceptance.{IsRootAt}
 use Rattle.demo_core.proofs.acceptance.root_count.Given as goal
 
 -- the roots so far

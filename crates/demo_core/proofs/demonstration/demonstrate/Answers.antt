@@ -1,7 +1,8 @@
 use Rattle.std.proofs.Common.{◌∙◌, ap, refl, sym, subst, arith, length, flat_map, List}
 use Rattle.sha2.specs.Sha256.{sha256}
 use Rattle.x509_core.specs.KeptCertificate.{KeptCertificate, kept_octets}
-use Rattle.demo_core.specs.Acceptance.{IsCount, IsRootAt, IsValidCount}
+use Rattle.der_core.specs.Counting.{IsCount}
+use Rattle.demo_core.specs.Acceptance.{IsRootAt, IsValidCount}
 use Rattle.demo_core.specs.History.{demo_history}
 use Rattle.demo_core.specs.declared.history.Step.{Step}
 use Rattle.demo_core.proofs.Whole.{are_few, are_in_order, demonstrated}

@@ -4,11 +4,13 @@ use Rattle.der_core.specs.Refusals.{RefusesOctets}
 use Rattle.key_core.specs.KeyRefusals.{unread}
 use Rattle.key_core.specs.PrivatePkcs1.{IsPrivatePkcs1, IsRsaPrivateKey}
 use Rattle.key_core.specs.declared.element.Element.TheVariants as elements
-use Rattle.demo_core.proofs.StepSecrets.{read_or_memory}
+use Rattle.key_core.proofs.SmallSecrets.{read_or_memory}
+use Rattle.demo_core.specs.Secrets.{step_modulus}
+use Rattle.demo_core.proofs.StepSubjects.{four_octets}
 use Rattle.demo_core.proofs.secret.private_key_of.Goals as goal
 
 pub returns : goal.returns
 returns c =
     MatchResult-weaker c.from_pkcs1.result c.from_pkcs1.ensures.answer
     (λ key read. subst (λ octets. IsPrivatePkcs1 octets key) c.secret_of.ensures read)
-    (λ e refused. refused.1 ∙ ap (unread elements.RsaPrivateKey) (read_or_memory c.args.index refused.0 (subst (λ octets. RefusesOctets IsRsaPrivateKey octets refused.0) c.secret_of.ensures refused.2)))
+    (λ e refused. refused.1 ∙ ap (unread elements.RsaPrivateKey) (read_or_memory (step_modulus c.args.index) (four_octets c.args.index) refused.0 (subst (λ octets. RefusesOctets IsRsaPrivateKey octets refused.0) c.secret_of.ensures refused.2)))

@@ -1,6 +1,6 @@
 -- Counts grow by one number at a time, and there is one.
 use Rattle.std.proofs.Common.{◌≡◌, ◌↔◌, ◌<◌, ◌≤◌, Bool, true, false, IsTrue, ℕ, zero, suc, ◌+◌, inl, inr, refl, sym, ap, subst, ◌∙◌, arith}
-use Rattle.ca_register.specs.Counting.{IsCount}
+use Rattle.der_core.specs.Counting.{IsCount}
 
 module _ (P : ℕ → Type 0) where
   count_within : (below number : ℕ) → IsCount P below number → number ≤ below
@@ -23,8 +23,8 @@ module _ (P : ℕ → Type 0) where
       let next : suc below ≡ below + 1 = omega arith in
       subst (λ (n : ℕ). IsCount P n more) next (counted below number test more count decides on off)
 
-  pub count_low : (below number : ℕ) → IsCount P below number → below < 200 → number < 200
-  count_low below number count low = omega (arith, count_within below number count, low)
+  pub count_low : (below number limit : ℕ) → IsCount P below number → below < limit → number < limit
+  count_low below number limit count low = omega (arith, count_within below number count, low)
 
   pub count_once : (below a b : ℕ) → IsCount P below a → IsCount P below b → a ≡ b
   count_once zero a b x y = x ∙ sym y

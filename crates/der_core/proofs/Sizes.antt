@@ -1,33 +1,13 @@
--- How large an element is at most: its encoding isn't longer than its size, and a small element is
--- refused for memory alone.
+-- The encoding of an element isn't longer than its size, and a small element is refused for memory
+-- alone.
 use Rattle.std.proofs.Common.{◌≡◌, Bool, true, false, ℕ, ◌+◌, ◌^◌, ◌<◌, ◌≤◌, nat_lt, if◌then◌else◌, List, [], ◌∷◌, ◌++◌, length, refl, subst, arith}
-use Rattle.std.specs.Prelude.{⊤}
 use Rattle.std.proofs.lemmas.List.{length-append}
 use Rattle.der_core.specs.DerElement.{DerElement, Primitive, Constructed, DerElements, Nil, Cons}
-use Rattle.der_core.specs.Encoding.{length_octets, framed, encoding, encodings, nesting, most_levels, IsShort, AreShort}
+use Rattle.der_core.specs.Encoding.{length_octets, framed, encoding, encodings, IsShort, AreShort}
 use Rattle.der_core.specs.Refusals.{RefusesInner}
 use Rattle.der_core.specs.declared.error.DerError.{DerError}
 use Rattle.der_core.specs.declared.error.DerError.TheVariants as errors
-
--- the contents, and six octets for each identifier with its length (X.690 8.1.3)
-abbrev mutual
-  pub size : DerElement → ℕ
-  size (Primitive tag content) = length content + 6
-  size (Constructed tag kids) = sizes kids + 6
-
-  pub sizes : DerElements → ℕ
-  sizes Nil = 0
-  sizes (Cons kid kids) = size kid + sizes kids
-
--- The element has few octets and few levels.
-pub record IsSmall (element : DerElement) : Type 0 where
-  pub nested : nesting element ≤ most_levels
-  pub light : size element < 2 ^ 32
-
--- each element is small
-abbrev pub AreSmall : List DerElement → Type 0
-AreSmall [] = ⊤
-AreSmall (element ∷ elements) = IsSmall element × AreSmall elements
+use Rattle.der_core.specs.Size.{size, sizes, IsSmall, AreSmall}
 
 either : (test : Bool) (a b : List ℕ) → length a ≤ 5 → length b ≤ 5 → length (if test then a else b) ≤ 5
 either true a b p q = p
@@ -63,11 +43,13 @@ mutual
   lights_short Nil light = tt
   lights_short (Cons kid kids) light = (light_short kid (omega arith), lights_short kids (omega arith))
 
-none_deep : (elements before : List DerElement) (element : DerElement) (after : List DerElement) → AreSmall elements → elements ≡ before ++ element ∷ after → IsSmall element
+none_deep : (elements before : List DerElement) (element : DerElement) (after : List DerElement) → AreSmall elements → elements ≡ before ++ element ∷ after
+    → IsSmall element
 none_deep [] [] element after small are = absurd cc
 none_deep [] (b ∷ before) element after small are = absurd cc
 none_deep (x ∷ elements) [] element after small are = let same : x ≡ element = cc in subst IsSmall same small.0
-none_deep (x ∷ elements) (b ∷ before) element after small are = let same : elements ≡ before ++ element ∷ after = cc in none_deep elements before element after small.1 same
+none_deep (x ∷ elements) (b ∷ before) element after small are = let same : elements ≡ before ++ element ∷ after = cc in
+    none_deep elements before element after small.1 same
 
 -- small elements are refused for memory alone
 pub only_memory : (elements : List DerElement) (e : DerError) → AreSmall elements → RefusesInner elements e → e ≡ errors.Memory

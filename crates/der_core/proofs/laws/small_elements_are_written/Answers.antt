@@ -1,5 +1,5 @@
-use Rattle.demo_core.proofs.Sizes.{within_size, light_short, only_memory}
-use Rattle.demo_core.proofs.laws.small_elements_are_written.Goals as goal
+use Rattle.der_core.proofs.Sizes.{within_size, light_short, only_memory}
+use Rattle.der_core.proofs.laws.small_elements_are_written.Goals as goal
 
 pub returns-clause-bounded : goal.returns-clause-bounded
 returns-clause-bounded c = within_size
