@@ -9,7 +9,7 @@ use Rattle.x509_core.specs.KeptCertificate.{KeptCertificate, kept_octets}
 use Rattle.x509_core.specs.declared.error.CertError.{CertError}
 use Rattle.x509_core.specs.declared.error.CertError.TheVariants as errors
 use Rattle.trust_anchors.specs.Answer.{AreGiven, code_anchor}
-use Rattle.trust_anchors.specs.Inquiry.{AppendsAnchors, AppendsRead, IsUnread}
+use Rattle.trust_anchors.specs.Reading.{AppendsAnchors, AppendsRead, IsUnread}
 use Rattle.trust_anchors.specs.declared.anchor.Anchor.{Anchor}
 use Rattle.trust_anchors.specs.declared.reading.ReadError.{ReadError}
 use Rattle.trust_anchors.specs.declared.reading.ReadError.TheVariants as read_error
@@ -87,7 +87,7 @@ pub last_anchor : (octets : List ℕ) (all : List (List ℕ)) (certificate : Kep
     → all ≡ octets ∷ [] → kept_octets certificate ≡ octets → after ≡ before ++ code_anchor certificate ∷ [] → AppendsAnchors before after all
 last_anchor octets all certificate before after are is pushed = (certificate ∷ [], pushed, ap (λ (x : List ℕ). x ∷ []) is ∙ sym are)
 
--- ---- all certificates of a job
+-- ---- all certificates of a command
 
 -- the files after the first: other anchors, the certificate, the pool
 split_from : {W : Type 0} (text : W → List ℕ) (words : List W) (more n : ℕ) (word : W) (octets : List ℕ) → length words ≡ more + 1 + n → word ≡ get_or words more word → text word ≡ octets

@@ -2,7 +2,7 @@ use Rattle.std.proofs.Common.{List, sym, subst}
 use Rattle.x509_core.specs.KeptCertificate.{KeptCertificate}
 use Rattle.trust_anchors.specs.AnchoredPath.{IsAnchoredPath}
 use Rattle.trust_anchors.proofs.Answered.{none_found}
-use Rattle.trust_anchors.proofs.inquiry.search.Goals as goal
+use Rattle.trust_anchors.proofs.answering.search.Goals as goal
 
 pub returns-in-Ok-None-clause-found : goal.returns-in-Ok-None-clause-found
 returns-in-Ok-None-clause-found g c path is =

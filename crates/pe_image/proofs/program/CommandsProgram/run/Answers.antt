@@ -3,7 +3,7 @@ use Rattle.program_frame.proofs.Parsing.{IsParsed-option}
 use Rattle.pe_image.specs.Commands.{program}
 use Rattle.pe_image.specs.HeldCommand.{command_held}
 use Rattle.pe_image.proofs.Vouching.{vouched_for}
-use Rattle.pe_image.proofs.program.ChecksProgram.run.Goals as goal
+use Rattle.pe_image.proofs.program.CommandsProgram.run.Goals as goal
 
 pub returns-clause-ends : goal.returns-clause-ends
 returns-clause-ends g c =

@@ -6,7 +6,7 @@ use Rattle.door_frame.specs.Files.{lent_files}
 use Rattle.door_frame.specs.Handing.{handed_line}
 use Rattle.door_frame.specs.Words.{lines_of}
 use Rattle.door_frame.proofs.LentCalls.{accepted, is_call, line_fits}
-use Rattle.door_frame.proofs.call.run_over.Goals as goal
+use Rattle.door_frame.proofs.calling.run_over.Goals as goal
 
 pub hand_out-requires : goal.hand_out-requires
 hand_out-requires g c =
