@@ -48,14 +48,8 @@ pub extern "C" fn picky_check_bytes(
             octets: table,
         },
     ];
-    call(
-        alloc,
-        &Commands { known: None },
-        words,
-        Some(&files),
-        line,
-        written,
-    )
+    let commands = Commands { known: None };
+    call(alloc, &commands, words, Some(&files), line, written)
 }
 
 /// The same under the table of a handle, which has been parsed before; with no table in it, there is
@@ -105,13 +99,16 @@ pub extern "C" fn picky_check_with_table(
             table.put(alloc, Some(known));
             status
         }
-        None => call(
-            alloc,
-            &Commands { known: None },
-            words,
-            Some(&[signature, list]),
-            line,
-            written,
-        ),
+        None => {
+            let commands = Commands { known: None };
+            call(
+                alloc,
+                &commands,
+                words,
+                Some(&[signature, list]),
+                line,
+                written,
+            )
+        }
     }
 }
