@@ -100,15 +100,9 @@ pub extern "C" fn picky_check_with_table(
             status
         }
         None => {
+            let files = [signature, list];
             let commands = Commands { known: None };
-            call(
-                alloc,
-                &commands,
-                words,
-                Some(&[signature, list]),
-                line,
-                written,
-            )
+            call(alloc, &commands, words, Some(&files), line, written)
         }
     }
 }

@@ -100,15 +100,9 @@ pub extern "C" fn picky_pe_with_table(
             status
         }
         None => {
+            let files = [program, list];
             let commands = Commands { known: None };
-            call(
-                alloc,
-                &commands,
-                words,
-                Some(&[program, list]),
-                line,
-                written,
-            )
+            call(alloc, &commands, words, Some(&files), line, written)
         }
     }
 }
