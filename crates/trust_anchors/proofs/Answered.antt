@@ -1,5 +1,5 @@
 -- A report of an answer is a report of each answer, and an acceptance reports the first path.
-use Rattle.std.proofs.Common.{◌≡◌, ℕ, ◌≤◌, List, [], ◌∷◌, length, map, Option, Some, None, MatchOption, Result, Ok, Err, sym, ap, subst, ◌∙◌, arith}
+use Rattle.std.proofs.Common.{◌≡◌, ℕ, ◌≤◌, List, [], ◌∷◌, length, map, Option, Some, None, MatchOption, Ok, Err, sym, ap, subst, ◌∙◌, arith}
 use Rattle.std.proofs.lemmas.List.Sums.{sum_by-cons}
 use Rattle.key_core.specs.Verifying.{Judge}
 use Rattle.sig_core.specs.declared.verdict_row.VerdictRow.{VerdictRow}
@@ -27,7 +27,8 @@ use Rattle.trust_anchors.specs.declared.report.Answer.TheVariants.{Anchored, NoP
 use Rattle.trust_anchors.proofs.Certificates.{one_answer}
 
 -- that nothing is found means that there is no path
-pub none_found : (IsOne : AnchoredPath → Type 0) (found : Option AnchoredPath) → found ≡ None → MatchOption found (HasNoPath IsOne) (IsFirstPath IsOne) → HasNoPath IsOne
+pub none_found : (IsOne : AnchoredPath → Type 0) (found : Option AnchoredPath) → found ≡ None → MatchOption found (HasNoPath IsOne) (IsFirstPath IsOne)
+    → HasNoPath IsOne
 none_found IsOne None is h = h
 none_found IsOne (Some path) is h = absurd cc
 
@@ -42,7 +43,8 @@ low Unread = omega arith
 pub memory_reports : (Is : Answer → Type 0) (s : Stop) → s ≡ stop.Memory → Reports reporting Is (Err s)
 memory_reports Is s is = record { reported = tt; stopped = is; only = λ other also none. is }
 
-pub answer_reports : (judge : Judge) (command : Command) (octets : List (List ℕ)) (answer : Answer) (report : Report) → IsAnswerTo judge command octets answer → IsReportOf reporting answer report
+pub answer_reports : (judge : Judge) (command : Command) (octets : List (List ℕ)) (answer : Answer) (report : Report) → IsAnswerTo judge command octets answer
+    → IsReportOf reporting answer report
     → Reports reporting (IsAnswerTo judge command octets) (Ok report)
 answer_reports judge command octets answer report is h = record {
   reported = (answer, is, h);
@@ -51,7 +53,8 @@ answer_reports judge command octets answer report is h = record {
 }
 
 -- what is found for the certificates of a command is its answer
-pub found_answer : (judge : Judge) (command : Command) (read octets : List (List ℕ)) (store : List Anchor) (checked : KeptCertificate) (pool : List KeptCertificate) (answer : Answer)
+pub found_answer : (judge : Judge) (command : Command) (read octets : List (List ℕ)) (store : List Anchor) (checked : KeptCertificate)
+    (pool : List KeptCertificate) (answer : Answer)
     → read ≡ octets → (anchors : List KeptCertificate) × (store ≡ map code_anchor anchors) × AreGiven command.number read anchors checked pool
     → IsSearchResult (IsAnchoredPath judge command.date checked pool store command.purpose) answer → IsAnswerTo judge command octets answer
 found_answer judge command read octets store checked pool Unread same given h = absurd h
@@ -73,8 +76,10 @@ found_answer judge command read octets store checked pool NoPath same given h = 
 -- ---- acceptance
 
 module _ (words : List (List ℕ)) (shelf shelf_now : ShelfState) (held held_now : Option (List ℕ)) where
-  of_path : (command : Command) (contents : List (List ℕ)) (rows : List VerdictRow) (answer : Answer) → AsksFor words command → AreWholeFiles shelf.files (files_of command) contents
-      → HandsOut (total_length contents) shelf shelf_now → IsTable (table_in contents) rows → IsAnswerTo (verdict_of rows) command (certificates_in contents) answer
+  of_path : (command : Command) (contents : List (List ℕ)) (rows : List VerdictRow) (answer : Answer) → AsksFor words command
+      → AreWholeFiles shelf.files (files_of command) contents
+      → HandsOut (total_length contents) shelf shelf_now → IsTable (table_in contents) rows
+      → IsAnswerTo (verdict_of rows) command (certificates_in contents) answer
       → status_of answer ≡ 0 → Appends held (report_line answer) held_now → IsReportedPath words shelf shelf_now held held_now
   of_path command [] rows answer asked are given is_table is_answer zero written = absurd are
   of_path command (text ∷ octets) rows NoPath asked are given is_table is_answer zero written = absurd (omega arith)
@@ -103,5 +108,6 @@ module _ (words : List (List ℕ)) (shelf shelf_now : ShelfState) (held held_now
   reported_path line h zero written =
       let read = h.2 in
       let returned = read.is_answered.is_answer in
-      of_path h.0 read.is_answered.contents returned.rows returned.answer h.1 read.is_answered.are_files read.given returned.is_table returned.is_answer (sym (ap (λ (l : Line). l.status) returned.line_is) ∙ zero)
+      of_path h.0 read.is_answered.contents returned.rows returned.answer h.1 read.is_answered.are_files read.given returned.is_table returned.is_answer
+      (sym (ap (λ (l : Line). l.status) returned.line_is) ∙ zero)
       (subst (λ (text : List ℕ). Appends held text held_now) (ap (λ (l : Line). l.text) returned.line_is) written)

@@ -1,5 +1,5 @@
 -- The words of a command, by their texts.
-use Rattle.std.proofs.Common.{◌≡◌, ℕ, ◌+◌, ◌-◌, ◌≤◌, List, ◌∷◌, length, get_or, take, drop, map, Some, sym, ap, subst, arith}
+use Rattle.std.proofs.Common.{◌≡◌, ℕ, ◌+◌, ◌-◌, ◌≤◌, List, ◌∷◌, length, get_or, take, drop, map, Some, sym, subst, arith}
 use Rattle.std.proofs.lemmas.List.{take_all}
 use Rattle.asn1_types.specs.declared.generalized_time.GeneralizedTime.{GeneralizedTime}
 use Rattle.program_frame.specs.DateWord.{IsDateWord}
@@ -38,11 +38,13 @@ module _ (table purpose_text date_text number_text : List ℕ) (certificates : L
 
   number_in : (command : Command) → AsksFor Words command → IsNumberWord number_text command.number
   number_in command asked =
-      subst (λ (w : List ℕ). IsNumberWord w command.number) (sym (same_number command.table (purpose_word command.purpose) asked.date_word asked.number_word command.certificates asked.words_are)) asked.number_is
+      subst (λ (w : List ℕ). IsNumberWord w command.number)
+      (sym (same_number command.table (purpose_word command.purpose) asked.date_word asked.number_word command.certificates asked.words_are)) asked.number_is
 
   date_in : (command : Command) → AsksFor Words command → IsDateWord date_text command.date
   date_in command asked =
-      subst (λ (w : List ℕ). IsDateWord w command.date) (sym (same_date command.table (purpose_word command.purpose) asked.date_word asked.number_word command.certificates asked.words_are)) asked.date_is
+      subst (λ (w : List ℕ). IsDateWord w command.date)
+      (sym (same_date command.table (purpose_word command.purpose) asked.date_word asked.number_word command.certificates asked.words_are)) asked.date_is
 
   -- without a number they are no command
   pub no_number : ((number : ℕ) → IsNumberWord number_text number → ⊥) → AsksForNothing Words
@@ -56,8 +58,10 @@ module _ (table purpose_text date_text number_text : List ℕ) (certificates : L
   only_command purpose date number purposes dates numbers more is command asked =
       let are = asked.words_are in
       let same_table : table ≡ command.table = (cc) in
-      let one_purpose : purpose ≡ command.purpose = (let one = purposes command.purpose (same_purpose command.table (purpose_word command.purpose) asked.date_word asked.number_word command.certificates are) in cc) in
+      let one_purpose : purpose ≡ command.purpose = (let one =
+      purposes command.purpose (same_purpose command.table (purpose_word command.purpose) asked.date_word asked.number_word command.certificates are) in cc) in
       let one_date : date ≡ command.date = (let one = dates command.date (date_in command asked) in cc) in
       let one_number : more + 1 ≡ command.number = (let one = numbers command.number (number_in command asked) in cc) in
-      let one_list : certificates ≡ command.certificates = same_certificates command.table (purpose_word command.purpose) asked.date_word asked.number_word command.certificates are in
+      let one_list : certificates ≡ command.certificates =
+      same_certificates command.table (purpose_word command.purpose) asked.date_word asked.number_word command.certificates are in
       λ i. Some (record { table = same_table i; purpose = one_purpose i; date = one_date i; number = one_number i; certificates = one_list i })

@@ -14,9 +14,11 @@ are_given files lent given is are = subst (λ (fs : Option (Bor (List LentFile))
 
 pub returns-clause-called : goal.returns-clause-called
 returns-clause-called g c given are = record {
-  call = λ utf8. over_given (λ (fs : Files). IsCall g.P.Program.program (lines_of c.args.words.now) fs (length c.args.line.now) (take c.run_over-handed.result.written c.run_over-handed.new.line) c.run_over-handed.result.status)
+  call = λ utf8. over_given (λ (fs : Files). IsCall g.P.Program.program (lines_of c.args.words.now) fs (length c.args.line.now)
+      (take c.run_over-handed.result.written c.run_over-handed.new.line) c.run_over-handed.result.status)
       (lent_files c.in-Some.files.now) given (are_given c.args.files c.in-Some.files given c.in-Some.is are)
-      (subst (λ (words : List ℕ). IsCall g.P.Program.program (lines_of words) (lent_files c.in-Some.files.now) (length c.args.line.now) (take c.run_over-handed.result.written c.run_over-handed.new.line) c.run_over-handed.result.status)
+      (subst (λ (words : List ℕ). IsCall g.P.Program.program (lines_of words) (lent_files c.in-Some.files.now) (length c.args.line.now)
+      (take c.run_over-handed.result.written c.run_over-handed.new.line) c.run_over-handed.result.status)
       c.in-Ok.ensures.cases.0 c.run_over-handed.ensures.called);
   no_words = λ bad. absurd (bad c.in-Ok.ensures.cases.1);
 }
@@ -25,5 +27,6 @@ pub returns-clause-accepted : goal.returns-clause-accepted
 returns-clause-accepted g c low given are =
     over_given (λ (fs : Files). IsAcceptedCall g.P.Program.Acceptance c.args.words.now fs (take c.run_over-handed.result.written c.run_over-handed.new.line))
     (lent_files c.in-Some.files.now) given (are_given c.args.files c.in-Some.files given c.in-Some.is are)
-    (subst (λ (words : List ℕ). IsAcceptedCall g.P.Program.Acceptance words (lent_files c.in-Some.files.now) (take c.run_over-handed.result.written c.run_over-handed.new.line))
+    (subst (λ (words : List ℕ).
+    IsAcceptedCall g.P.Program.Acceptance words (lent_files c.in-Some.files.now) (take c.run_over-handed.result.written c.run_over-handed.new.line))
     c.in-Ok.ensures.cases.0 (c.run_over-handed.ensures.accepted low))

@@ -20,11 +20,13 @@ returns-in-Some-clause-called c =
 pub returns-in-None-clause-vouched_for : goal.returns-in-None-clause-vouched_for
 returns-in-None-clause-vouched_for c low =
     c.call.ensures.accepted low (program_files c.args.program.now (text_of c.args.table.now.known) c.args.list.now)
-    (λ name. (λ i. if bytes_eq (codes "PROGRAM") name then Some c.args.program.now else if bytes_eq (codes "LIST") name then Some c.args.list.now else either_way None (bytes_eq (codes "TABLE") name) i)
+    (λ name. (λ i. if bytes_eq (codes "PROGRAM") name then Some c.args.program.now else if bytes_eq (codes "LIST") name then Some c.args.list.now
+    else either_way None (bytes_eq (codes "TABLE") name) i)
     ∙ ap (λ (table : Option (List ℕ)). program_files c.args.program.now table c.args.list.now name) (sym (ap text_of c.in-None.ensures.table)))
 
 pub returns-in-None-clause-called : goal.returns-in-None-clause-called
 returns-in-None-clause-called c =
     c.call.ensures.called (program_files c.args.program.now (text_of c.args.table.now.known) c.args.list.now)
-    (λ name. (λ i. if bytes_eq (codes "PROGRAM") name then Some c.args.program.now else if bytes_eq (codes "LIST") name then Some c.args.list.now else either_way None (bytes_eq (codes "TABLE") name) i)
+    (λ name. (λ i. if bytes_eq (codes "PROGRAM") name then Some c.args.program.now else if bytes_eq (codes "LIST") name then Some c.args.list.now
+    else either_way None (bytes_eq (codes "TABLE") name) i)
     ∙ ap (λ (table : Option (List ℕ)). program_files c.args.program.now table c.args.list.now name) (sym (ap text_of c.in-None.ensures.table)))
