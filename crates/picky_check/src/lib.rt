@@ -3,6 +3,7 @@
 
 mod answering;
 mod chain;
+mod chain_files;
 mod policies;
 mod program;
 mod report;

@@ -1,9 +1,10 @@
 //! The commands of the command line.
 
-ghost use Rattle.std.specs.Prelude.{◌≡◌, ◌≤◌, Some, None, length, map, IfOk, IfSome, IsErr, IsSome, MatchOption, option_map, string_bytes, ◌∷◌, codes, Ok};
+ghost use Rattle.std.specs.Prelude.{◌≡◌, Some, None, map, IfOk, IfSome, IsErr, IsSome, MatchOption, option_map, string_bytes, ◌∷◌, codes, Ok};
 ghost use Rattle.picky_check.specs.HeldCommand.{command_held};
 ghost use Rattle.picky_check.specs.Words.{AsksFor, AsksForNothing, Command as AskedCommand, asked_hash};
 
+use crate::chain_files::ChainFiles;
 use names_core::UtcDate;
 use program_frame::{CheckOptions, date_of, options_of};
 use std::alloc::{AllocError, Global};
@@ -38,13 +39,6 @@ pub(crate) enum Command<'a> {
         date: UtcDate,
         certificates: ChainFiles<'a>,
     },
-}
-
-/// The files of a certificate and its parents, at least one.
-#[derive(Clone, Copy, Debug)]
-pub(crate) struct ChainFiles<'a> {
-    pub(crate) names: &'a [String],
-    ghost some: { 1 ≤ length names.now },
 }
 
 /// Parses the words, by the table of commands. Nothing is allocated if they are no command.
