@@ -7,5 +7,6 @@ pub mod Adding
 pub mod DateWords
 pub mod SecondsWords
 pub mod OptionWords
-pub mod Inquiries
+pub mod Answerings
 pub mod Runs
+pub mod Reporting

@@ -1,5 +1,6 @@
 -- The names and contents of files, and options, as the program stores them.
-use Rattle.std.specs.Prelude.{ℕ, List, ◌∷◌, map, option_map, string_bytes}
+use Rattle.std.specs.Prelude.{ℕ, List, [], ◌∷◌, ◌++◌, map, Option, Some, None, option_map, string_bytes}
+use Rattle.std.specs.Borrow.{Bor}
 use Rattle.program_frame.specs.declared.files.Contents.{Contents}
 use Rattle.program_frame.specs.declared.files.Names.{Names}
 use Rattle.program_frame.specs.declared.options.CheckOption.{CheckOption as HeldOption}
@@ -9,13 +10,18 @@ use Rattle.program_frame.specs.declared.options.ListOption.{ListOption}
 use Rattle.program_frame.specs.ListOption.{AskedList}
 use Rattle.program_frame.specs.Options.{CheckOption, CheckOptions, Until, NoBefore, NoAfter, NoChain, TrustList}
 
+-- the name of a last file, if there is one
+abbrev pub last_held : Option (Bor (List ℕ)) → List (List ℕ)
+last_held None = []
+last_held (Some name) = name.now ∷ []
+
 -- the names of files, in order
 abbrev pub names_held : Names → List (List ℕ)
-names_held n = n.first.now ∷ n.second.now ∷ map string_bytes n.others.now
+names_held n = n.first.now ∷ map string_bytes n.others.now ++ last_held n.last
 
 -- the contents of files, in order
 abbrev pub contents_held : Contents → List (List ℕ)
-contents_held c = c.first.items ∷ c.second.items ∷ map (λ octets. octets.items) c.others.items
+contents_held c = c.first.items ∷ map (λ octets. octets.items) c.others.items
 
 -- the option `--list`
 abbrev pub list_held : ListOption → AskedList

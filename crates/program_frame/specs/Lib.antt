@@ -1,6 +1,6 @@
 -- Promises, which public contracts cite: all but those named below; first `Shelf`, `Sink`.
 -- Rules, which the promises rest on: `Stored`, `SecondsWord`, `ListOption`.
--- For the programs: `Run`.
+-- For the programs: `Commands`, `Answering`, `Reports`, `Tables`, `Run`.
 pub mod Shelf
 pub mod Sink
 pub mod Limits
@@ -17,7 +17,9 @@ pub mod ListOption
 pub mod Options
 pub mod Held
 pub mod KnownTable
-pub mod Question
-pub mod Inquiry
+pub mod Commands
+pub mod Answering
+pub mod Reports
+pub mod Tables
 pub mod Ending
 pub mod Run

@@ -1,6 +1,6 @@
 //! Whole files from a shelf, and whole reports to a sink.
 
-ghost use Rattle.std.specs.Prelude.{◌≡◌, ◌+◌, ◌≤◌, ◌++◌, ℕ, List, Err, length, map, string_bytes, IfOk, IfErr, OnOk, OnErr, IsOk, IsErr, IsSome, IsErrOf, MatchResult};
+ghost use Rattle.std.specs.Prelude.{◌≡◌, ◌+◌, ◌≤◌, ◌∷◌, ◌++◌, ℕ, List, [], Err, length, map, IfOk, IfErr, OnOk, OnErr, IsOk, IsErr, IsSome, IsErrOf, MatchOption, MatchResult};
 ghost use Rattle.der_core.specs.Counts.{GoesOn, HasRisen, FailsOnce};
 ghost use Rattle.program_frame.specs.Held.{contents_held, names_held};
 ghost use Rattle.program_frame.specs.Limits.{longest_file, IsWholeFile, IsLongFile, IsMissingFile};
@@ -83,68 +83,98 @@ pub fn write_report<O: Sink>(out: &mut O, text: &str) -> Result<(), Failed>
     Ok(())
 }
 
-/// The names of the files to read, in order: at least two.
+/// The names of the files to read, in order: the first, then others, and there may be one more.
 #[derive(Clone, Copy, Debug)]
 pub struct Names<'a> {
     pub first: &'a str,
-    pub second: &'a str,
     pub others: &'a [String],
+    pub last: Option<&'a str>,
+}
+
+impl<'a> Names<'a> {
+    /// Those behind the first, if there are any.
+    fn behind(self) -> Option<Names<'a>>
+        ensures { MatchOption result
+            (names_held self ≡ self.first.now ∷ [])
+            (λ behind. names_held self ≡ self.first.now ∷ names_held behind) }
+    {
+        match self.others {
+            [next, others @ ..] => Some(Names {
+                first: next.as_str(),
+                others,
+                last: self.last,
+            }),
+            [] => Some(Names {
+                first: self.last?,
+                others: &[],
+                last: None,
+            }),
+        }
+    }
 }
 
 /// The contents of the files that were read, in order.
 #[derive(Debug, Drop)]
 pub struct Contents {
     pub first: Vec<u8>,
-    pub second: Vec<u8>,
     pub others: Vec<Vec<u8>>,
 }
 
+impl Contents {
+    /// The contents of the first file, of the second, and of those behind.
+    pub fn parts(&self) -> (&[u8], &[u8], &[Vec<u8>])
+        requires { 2 ≤ length (contents_held self.now) }
+        ensures { contents_held self.now
+            ≡ result.0.now ∷ result.1.now ∷ map (λ octets. octets.items) result.2.now }
+    {
+        (&self.first, &self.others[0], &self.others[1..])
+    }
+}
+
 /// Reads whole files, in order.
-pub fn read_files<F: Shelf>(
+pub(crate) fn read_files<F: Shelf>(
     alloc: Global,
     shelf: &mut F,
-    names: &Names<'_>,
+    names: Names<'_>,
 ) -> Result<Contents, FileError>
     ensures read { MatchResult result
-        (λ read. AreRead (F.state shelf.old) (F.state shelf.new) (names_held names.now)
+        (λ read. AreRead (F.state shelf.old) (F.state shelf.new) (names_held names)
         (contents_held read))
-        (AreUnread (F.state shelf.old) (F.state shelf.new) (names_held names.now)) }
-    ensures at_most { HandsOutAtMost (length (names_held names.now))
+        (AreUnread (F.state shelf.old) (F.state shelf.new) (names_held names)) }
+    ensures at_most { HandsOutAtMost (length (names_held names))
         (F.state shelf.old) (F.state shelf.new) }
     ensures once { FailsOnce (result ≡ Err FileError.Fault)
         (F.state shelf.old).faults (F.state shelf.new).faults }
 {
     let first = read_file(alloc, shelf, names.first)?;
-    let second = read_file(alloc, shelf, names.second)?;
     let mut others = Vec::new(alloc);
-    append_files(alloc, shelf, names.others, &mut others)?;
-    Ok(Contents {
-        first,
-        second,
-        others,
-    })
+    if let Some(behind) = names.behind() {
+        append_files(alloc, shelf, behind, &mut others)?;
+    }
+    Ok(Contents { first, others })
 }
 
 /// Reads whole files and appends them to those already read.
-pub fn append_files<F: Shelf>(
+fn append_files<F: Shelf>(
     alloc: Global,
     shelf: &mut F,
-    names: &[String],
+    names: Names<'_>,
     contents: &mut Vec<Vec<u8>>,
 ) -> Result<(), FileError>
     ensures read { OnOk result ((read : List (List ℕ))
         × (map (λ octets. octets.items) contents.new.items
         ≡ map (λ octets. octets.items) contents.old.items ++ read)
-        × AreRead (F.state shelf.old) (F.state shelf.new) (map string_bytes names.now) read) }
+        × AreRead (F.state shelf.old) (F.state shelf.new) (names_held names) read) }
     ensures unread { IfErr result
-        (AreUnread (F.state shelf.old) (F.state shelf.new) (map string_bytes names.now)) }
-    ensures at_most { HandsOutAtMost (length names.now) (F.state shelf.old) (F.state shelf.new) }
+        (AreUnread (F.state shelf.old) (F.state shelf.new) (names_held names)) }
+    ensures at_most { HandsOutAtMost (length (names_held names))
+        (F.state shelf.old) (F.state shelf.new) }
     ensures once { FailsOnce (result ≡ Err FileError.Fault)
         (F.state shelf.old).faults (F.state shelf.new).faults }
 {
-    let [name, others @ ..] = names else {
-        return Ok(());
-    };
-    contents.push(read_file(alloc, shelf, name.as_str())?)?;
-    append_files(alloc, shelf, others, contents)
+    contents.push(read_file(alloc, shelf, names.first)?)?;
+    match names.behind() {
+        Some(behind) => append_files(alloc, shelf, behind, contents),
+        None => Ok(()),
+    }
 }

@@ -1,7 +1,8 @@
-//! What programs over files share: files from a shelf and a report to a sink, the exit statuses,
-//! and words of a command line.
+//! What programs over files share: files from a shelf and a report to a sink, commands and their
+//! runs, the exit statuses, and words of a command line.
 #![tactic(auto)]
 
+mod command;
 mod dates;
 mod disk;
 mod error;
@@ -9,6 +10,7 @@ mod files;
 mod known_table;
 mod memory;
 mod options;
+mod program;
 mod report;
 mod seconds;
 mod shelf;
@@ -16,16 +18,18 @@ mod sink;
 mod stop;
 mod stored;
 mod stream;
-mod task;
+mod table_command;
 
+pub use command::{Command, run};
 pub use dates::date_of;
 pub use disk::{DirShelf, OutSink, Paths};
 pub use error::FileError;
-pub use files::{Contents, Names, append_files, read_file, read_files, write_report};
+pub use files::{Contents, Names, read_file, write_report};
 pub use known_table::{FoundTable, KnownTable, find_table};
 pub use memory::{MemShelf, MemSink};
 pub use options::{CheckOption, CheckOptions, ListOption, options_of};
-pub use report::{Report, deliver, finish};
+pub use program::Program;
+pub use report::{Report, deliver};
 pub use shelf::{Failed, Shelf};
 pub use sink::Sink;
 pub use stop::{
@@ -33,4 +37,4 @@ pub use stop::{
     status_without_words,
 };
 pub use stream::{Opener, ReaderShelf, WriterSink};
-pub use task::{Task, answer};
+pub use table_command::{TableCommand, run_by_table};

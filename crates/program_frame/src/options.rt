@@ -2,13 +2,12 @@
 
 ghost use Rattle.std.specs.Prelude.{◌≡◌, ◌≤◌, ◌∷◌, codes, ℕ, List, length, map, option_map, string_bytes, Some, IfSome, MatchOption};
 ghost use Rattle.program_frame.specs.ListOption.{list_files};
-ghost use Rattle.program_frame.specs.Held.{option_held, options_held};
+ghost use Rattle.program_frame.specs.Held.{last_held, option_held, options_held};
 ghost use Rattle.program_frame.specs.Options.{AreOptions, BeginsWithOption, CheckOption as OptionOfCheck, CheckOptions as OptionsOfCheck, IsAbsent, with_option};
 
 use crate::dates::date_of;
 use crate::seconds::seconds_of;
 use names_core::UtcDate;
-use std::slice;
 
 /// The option `--list FILE SECONDS`.
 #[derive(Clone, Copy, Debug)]
@@ -46,12 +45,12 @@ pub struct CheckOptions<'a> {
 
 impl<'a> CheckOptions<'a> {
     /// The name of the file with the trust list, if there is one.
-    pub fn list_file(&self) -> &'a [String]
-        ensures { map string_bytes result.now ≡ list_files (options_held self.now).list }
+    pub fn list_file(&self) -> Option<&'a str>
+        ensures { last_held result ≡ list_files (options_held self.now).list }
     {
         match self.list {
-            Some(list) => slice::from_ref(list.file),
-            None => &[],
+            Some(list) => Some(list.file.as_str()),
+            None => None,
         }
     }
 

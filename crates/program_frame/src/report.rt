@@ -30,7 +30,7 @@ pub fn deliver<O: Sink>(out: &mut O, report: &Report) -> u8
 }
 
 /// Ends a run: delivers its report, if there is one, and returns the exit status.
-pub fn finish<O: Sink>(out: &mut O, ended: Result<Report, Stop>) -> u8
+pub(crate) fn finish<O: Sink>(out: &mut O, ended: Result<Report, Stop>) -> u8
     ensures ends { Ends ended (O.state out.old) (O.state out.new) result }
     ensures capacity { KeepsCapacity (O.state out.old) (O.state out.new) }
     ensures once { FailsOnce (result ≡ statuses.sink_failed) (O.state out.old).faults

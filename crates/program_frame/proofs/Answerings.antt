@@ -1,18 +1,20 @@
--- The result for a question follows from reading its files and from their contents.
-use Rattle.std.proofs.Common.{◌≡◌, ℕ, List, [], ◌∷◌, ◌++◌, Option, IsSome, Result, Ok, Err, IfOk, IfErr, inl, inr, refl, subst}
+-- The result for a command follows from reading its files and from their contents.
+use Rattle.std.proofs.Common.{◌≡◌, ℕ, List, [], ◌∷◌, ◌++◌, length, Option, IsSome, Result, Ok, Err, IfOk, inl, inr, refl, subst, arith}
 use Rattle.std.proofs.lemmas.List.Elements.{All-cons, All-nil}
-use Rattle.std.proofs.lemmas.Result.{IfOk-weaker, IfErr-weaker}
+use Rattle.std.proofs.lemmas.Result.{IfErr-weaker}
+use Rattle.der_core.specs.Counts.{FailsOnce}
 use Rattle.program_frame.specs.declared.report.Report.{Report}
 use Rattle.program_frame.specs.declared.stop.Stop.{Stop}
 use Rattle.program_frame.specs.declared.stop.Stop.TheVariants as stop
 use Rattle.program_frame.specs.declared.error.FileError.{FileError}
 use Rattle.program_frame.specs.declared.error.FileError.TheVariants as file
 use Rattle.program_frame.specs.Limits.{IsWholeFile, IsLongFile, IsMissingFile, AreWholeFiles, HasFiles}
-use Rattle.program_frame.specs.ReadFiles.{AreRead, AreUnread, FindsLongFile}
+use Rattle.program_frame.specs.ReadFiles.{AreRead, AreUnread, FindsLongFile, HandsOutAtMost}
 use Rattle.program_frame.specs.Stops.{stop_for_file}
 use Rattle.program_frame.specs.Shelf.{Files, ShelfState, file_of}
-use Rattle.program_frame.specs.Question.{Line, Question}
-use Rattle.program_frame.specs.Inquiry.{GivesLine, GivesStop, StopsForText, IsStopped, IsInquiry, line_of}
+use Rattle.program_frame.specs.Commands.{Program, AnswersRead}
+use Rattle.program_frame.specs.Answering.{IsAnswering, IsReport, IsStopped, StopsForText, line_held}
+use Rattle.program_frame.proofs.Failing.{none_failed}
 use Rattle.program_frame.proofs.SeveralFiles.{has_file, not_long, not_missing, same_file}
 
 -- ---- whole files
@@ -60,45 +62,66 @@ none_long : (files : Option Files) (names contents ahead behind : List (List ℕ
 none_long files names contents ahead behind name whole are l =
     let one = one_whole files names contents ahead behind name whole are in not_long files name one.0 one.1 l
 
--- ---- inquiries
+-- ---- results
 
--- if memory ran out for the question itself
-pub IsInquiry-memory : (before after : ShelfState) (question : Question) → IsInquiry before after question (Err stop.Memory)
-IsInquiry-memory before after question = record {
+-- if memory ran out
+answering_memory : {Command : Type 0} (program : Program Command) (before after : ShelfState) (command : Command)
+    → HandsOutAtMost (length (program.files_of command)) before after
+    → FailsOnce (◌≡◌ {A = Result Report Stop} (Err stop.Memory) (Err stop.Shelf)) before.faults after.faults
+    → IsAnswering program before after command (Err stop.Memory)
+answering_memory program before after command at_most once = record {
   reported = tt;
+  low = tt;
   stopped = tt;
   answered = λ line t asked q. refl;
   bad_text = λ t bad q. inr refl;
   missing = λ ahead behind name are m. inl (inr refl);
   too_long = λ ahead behind name are l. inl (inr refl);
+  at_most = at_most;
+  once = once;
 }
 
-module _ (before after : ShelfState) (question : Question) where
-  all_short : (contents : List (List ℕ)) → AreWholeFiles before.files question.files contents → IsSome before.files → FindsLongFile before after question.files → ⊥
-  all_short contents whole t l = none_long before.files question.files contents l.ahead l.behind l.name whole l.names_are (l.is_long t)
+-- if memory ran out for the command itself
+pub IsAnswering-memory : {Command : Type 0} (program : Program Command) (shelf : ShelfState) (command : Command)
+    → IsAnswering program shelf shelf command (Err stop.Memory)
+IsAnswering-memory program shelf command = answering_memory program shelf shelf command (omega arith) (none_failed refl)
+
+module _ {Command : Type 0} (program : Program Command) (before after : ShelfState) (command : Command)
+    (at_most : HandsOutAtMost (length (program.files_of command)) before after) where
+  all_short : (contents : List (List ℕ)) → AreWholeFiles before.files (program.files_of command) contents → IsSome before.files
+      → FindsLongFile before after (program.files_of command) → ⊥
+  all_short contents whole t l =
+      none_long before.files (program.files_of command) contents l.ahead l.behind l.name whole l.names_are (l.is_long t)
 
   -- if the files were not all read
-  pub IsInquiry-unread : (e : FileError) → AreUnread before after question.files e → IsInquiry before after question (Err (stop_for_file e))
-  IsInquiry-unread file.Fault h = record {
+  pub IsAnswering-unread : (e : FileError) → FailsOnce (◌≡◌ {A = Result Report Stop} (Err (stop_for_file e)) (Err stop.Shelf)) before.faults after.faults
+      → AreUnread before after (program.files_of command) e → IsAnswering program before after command (Err (stop_for_file e))
+  IsAnswering-unread file.Fault once h = record {
     reported = tt;
+    low = tt;
     stopped = (h.failed refl, λ q there. h.quiet q there refl);
-    answered = λ line t asked q. absurd (h.quiet q (has_files before.files question.files asked.contents t asked.are_files) refl);
-    bad_text = λ t bad q. absurd (h.quiet q (has_files before.files question.files bad.contents t bad.are_files) refl);
+    answered = λ line t asked q. absurd (h.quiet q (has_files before.files (program.files_of command) asked.contents t asked.are_files) refl);
+    bad_text = λ t bad q. absurd (h.quiet q (has_files before.files (program.files_of command) bad.contents t bad.are_files) refl);
     missing = λ ahead behind name are m. inl (inl refl);
     too_long = λ ahead behind name are l. inr (refl, λ q there. h.long ahead behind name are l q there refl);
+    at_most = at_most;
+    once = once;
   }
-  IsInquiry-unread file.TooLong h = record {
+  IsAnswering-unread file.TooLong once h = record {
     reported = tt;
+    low = tt;
     stopped = h.too_long refl;
     answered = λ line t asked q. absurd (all_short asked.contents asked.are_files t (h.too_long refl));
     bad_text = λ t bad q. absurd (all_short bad.contents bad.are_files t (h.too_long refl));
     missing = λ ahead behind name are m. inr (refl, h.missing ahead behind name are m refl);
     too_long = λ ahead behind name are l. inl (inl refl);
+    at_most = at_most;
+    once = once;
   }
-  IsInquiry-unread file.Memory h = IsInquiry-memory before after question
+  IsAnswering-unread file.Memory once h = answering_memory program before after command at_most once
 
-  module _ (contents : List (List ℕ)) (read : AreRead before after question.files contents) where
-    stopped_for_text : (s : Stop) → StopsForText (question.HasBadLine contents) s → IsStopped before after question s
+  module _ (contents : List (List ℕ)) (read : AreRead before after (program.files_of command) contents) where
+    stopped_for_text : (s : Stop) → StopsForText (program.HasBadLine command contents) s → IsStopped program before after command s
     stopped_for_text stop.BadTable bad = record {
       has_bad_text = record { contents = contents; are_files = read.are_files; bad_line = bad };
       given = read.given;
@@ -108,25 +131,34 @@ module _ (before after : ShelfState) (question : Question) where
     stopped_for_text stop.Shelf bad = absurd bad
     stopped_for_text stop.TooLong bad = absurd bad
 
+    answers_read : (report : Report) → program.IsAnswer command contents (line_held report) → program.Promises command contents (line_held report)
+        → AnswersRead program before after command (line_held report)
+    answers_read report is promised = record {
+      is_answered = record { contents = contents; are_files = read.are_files; is_answer = is };
+      given = read.given;
+      promised = promised;
+    }
+
+    reported : (result : Result Report Stop) → IsReport program command contents result
+        → IfOk result (λ report. AnswersRead program before after command (line_held report))
+    reported (Ok report) h = answers_read report h.reported h.promised
+    reported (Err s) h = tt
+
     -- if all files were read
-    pub IsInquiry-read : (result : Result Report Stop)
-        → IfOk result (λ report. question.IsAnswer contents (line_of report))
-        → IfErr result (StopsForText (question.HasBadLine contents))
-        → ((line : Line) → question.IsAnswer contents line → GivesLine line result)
-        → (question.HasBadLine contents → GivesStop stop.BadTable result)
-        → IsInquiry before after question result
-    IsInquiry-read result reported stopped only bad = record {
-      reported = IfOk-weaker result _ _ (λ report h. record {
-        is_answered = record { contents = contents; are_files = read.are_files; is_answer = h };
-        given = read.given;
-      }) reported;
-      stopped = IfErr-weaker result _ _ (λ s h. stopped_for_text s h) stopped;
+    pub IsAnswering-read : (result : Result Report Stop) → FailsOnce (result ≡ Err stop.Shelf) before.faults after.faults
+        → IsReport program command contents result → IsAnswering program before after command result
+    IsAnswering-read result once h = record {
+      reported = reported result h;
+      low = h.low;
+      stopped = IfErr-weaker result _ _ (λ s is. stopped_for_text s is) h.stopped;
       answered = λ line t asked q.
-          let same = contents_once before.files question.files asked.contents contents t asked.are_files read.are_files in
-          only line (subst (λ (c : List (List ℕ)). question.IsAnswer c line) same asked.is_answer);
-      bad_text = λ t h q.
-          let same = contents_once before.files question.files h.contents contents t h.are_files read.are_files in
-          bad (subst question.HasBadLine same h.bad_line);
-      missing = λ ahead behind name are m. absurd (none_missing before.files question.files contents ahead behind name read.are_files are m);
-      too_long = λ ahead behind name are l. absurd (none_long before.files question.files contents ahead behind name read.are_files are l);
+          let same = contents_once before.files (program.files_of command) asked.contents contents t asked.are_files read.are_files in
+          h.only line (subst (λ (c : List (List ℕ)). program.IsAnswer command c line) same asked.is_answer);
+      bad_text = λ t bad q.
+          let same = contents_once before.files (program.files_of command) bad.contents contents t bad.are_files read.are_files in
+          h.bad (subst (program.HasBadLine command) same bad.bad_line);
+      missing = λ ahead behind name are m. absurd (none_missing before.files (program.files_of command) contents ahead behind name read.are_files are m);
+      too_long = λ ahead behind name are l. absurd (none_long before.files (program.files_of command) contents ahead behind name read.are_files are l);
+      at_most = at_most;
+      once = once;
     }
