@@ -6,7 +6,7 @@ use Rattle.sig_core.specs.declared.verdict_row.VerdictRow.{VerdictRow}
 use Rattle.sig_core.specs.declared.verdict_table.TableError.{TableError}
 use Rattle.sig_core.specs.declared.verdict_table.TableError.TheVariants as table
 use Rattle.sig_core.proofs.Tables.{no_bad_line, table_once}
-use Rattle.program_frame.specs.Answering.{GivesLine, IsReport, StopsForText, line_held}
+use Rattle.program_frame.specs.Answering.{GivesLine, GivesStop, IsReport, StopsForText, line_held}
 use Rattle.program_frame.specs.Commands.{Line, Program}
 use Rattle.program_frame.specs.Reports.{GivesReport, IsReportOf, IsReported, Reporting, Reports, as_lines}
 use Rattle.program_frame.specs.Stops.{stop_for_table}
@@ -48,9 +48,9 @@ module _ {Answer : Type 0} (reporting : Reporting Answer) where
   reported_is Is answer (Err s) is h only = record { reported = tt; stopped = h; only = only }
 
 -- without a report memory ran out
-pub stopped_for_memory : {HasBadLine : Type 0} (result : Result Report Stop) → IfErr result (λ s. s ≡ stop.Memory) → IfErr result (StopsForText HasBadLine)
-stopped_for_memory (Ok report) h = tt
-stopped_for_memory {HasBadLine} (Err s) h = subst (StopsForText HasBadLine) (sym h) tt
+stopped_for_memory : (HasBadLine : Type 0) (result : Result Report Stop) → IfErr result (λ s. s ≡ stop.Memory) → IfErr result (StopsForText HasBadLine)
+stopped_for_memory HasBadLine (Ok report) h = tt
+stopped_for_memory HasBadLine (Err s) h = subst (StopsForText HasBadLine) (sym h) tt
 
 nothing_promised : (result : Result Report Stop) → IfOk result (λ report. Unit {0})
 nothing_promised (Ok report) = tt
@@ -67,7 +67,7 @@ module _ {Command : Type 0} (program : Program Command) (command : Command) (con
     reported = IfOk-weaker result _ _ (λ report is. subst (program.IsAnswer command contents) (sym (line_is as_lines is.0 report is.2)) is.1) h.reported;
     promised = promised;
     low = low;
-    stopped = stopped_for_memory result h.stopped;
+    stopped = stopped_for_memory _ result h.stopped;
     only = λ line is. gives_line as_lines line line result refl (h.only line is (λ none. none));
     bad = λ bad. absurd (none bad);
   }
@@ -100,7 +100,7 @@ module _ {Command Answer : Type 0} (program : TableProgram Command Answer) (comm
       reported = IfOk-weaker result _ _ (λ report is. table_line report is) h.reported;
       promised = nothing_promised result;
       low = low;
-      stopped = stopped_for_memory result h.stopped;
+      stopped = stopped_for_memory _ result h.stopped;
       only = λ line is. gives_line program.reporting is.answer line result is.line_is
           (h.only is.answer (under_rows is.rows is.answer is.is_table is.is_answer) is.reportable);
       bad = λ bad. absurd (no_bad_line _ rows bad.0 is_table bad.1);
@@ -113,7 +113,7 @@ module _ {Command Answer : Type 0} (program : TableProgram Command Answer) (comm
     caused table.Memory cause = tt
 
     bad_or_memory : (number : ℕ) (e : TableError) → (e ≡ table.BadLine number) ⊎ (e ≡ table.Memory)
-        → ((Err (stop_for_table e)) ≡ Err {T = Report} stop.BadTable) ⊎ ((Err (stop_for_table e)) ≡ Err stop.Memory)
+        → GivesStop stop.BadTable (Err (stop_for_table e))
     bad_or_memory number e (inl is) = inl (ap Err (ap stop_for_table is))
     bad_or_memory number e (inr is) = inr (ap Err (ap stop_for_table is))
 

@@ -1,12 +1,12 @@
 -- What a run does follows from the result for the files, and from what the sink accepted.
-use Rattle.std.proofs.Common.{◌≡◌, ◌≢◌, ◌⊎◌, ℕ, ◌≤◌, List, length, IsSome, Result, Ok, Err, IfOk, inl, inr, refl, sym, ◌∙◌, ap, subst, arith}
+use Rattle.std.proofs.Common.{◌≡◌, ◌≢◌, ◌⊎◌, ℕ, ◌≤◌, List, length, Option, Some, None, IsSome, Result, Ok, Err, inl, inr, refl, sym, ◌∙◌, ap, subst, arith}
 use Rattle.std.specs.Prelude.{string_bytes}
 use Rattle.der_core.specs.Counts.{FailsOnce, HasRisen}
 use Rattle.program_frame.specs.declared.report.Report.{Report}
 use Rattle.program_frame.specs.declared.stop.Stop.{Stop}
 use Rattle.program_frame.specs.declared.stop.Stop.TheVariants as stop
 use Rattle.program_frame.specs.Answering.{GivesLine, GivesStop, IsAnswering, IsStopped, line_held}
-use Rattle.program_frame.specs.Commands.{Line, Program, AsksForNothing, IsAnswered}
+use Rattle.program_frame.specs.Commands.{Line, Program, AsksForNothing, IsAnswered, IsParsed, parsed_held}
 use Rattle.program_frame.specs.Limits.{HasFiles, HasLongFile}
 use Rattle.program_frame.specs.Run.{IsRun, IsRunAnswer, LacksRoom}
 use Rattle.program_frame.specs.Shelf.{ShelfState}
@@ -247,6 +247,24 @@ module _ {Command S : Type 0} (program : Program Command) (words : List (List �
           → IsRun program words state shelf shelf_now out out_now status
       IsRun-delivered status sink_once (inl h) = IsRun-written status sink_once h.0 h.1
       IsRun-delivered status sink_once (inr h) = IsRun-cut status sink_once h.0 h.1 h.2
+
+-- ---- what was parsed
+
+module _ {Held Command E : Type 0} (program : Program Command) (words : List (List ℕ)) (asked : Held → Command) (parsed : Result (Option Held) E) where
+  only_one : (a b : Command) → Some a ≡ Some b → a ≡ b
+  only_one a b is = cc
+
+  pub found_held : (held : Held) → parsed ≡ Ok (Some held) → IsParsed program words (parsed_held asked parsed)
+      → program.AsksFor words (asked held) × ((other : Command) → program.AsksFor words other → asked held ≡ other)
+  found_held held is h =
+      let h = subst (λ (p : Result (Option Held) E). IsParsed program words (parsed_held asked p)) is h in
+      (h.asked, λ other some. only_one (asked held) other (h.only other some))
+
+  pub none_held : parsed ≡ Ok None → IsParsed program words (parsed_held asked parsed) → AsksForNothing program words
+  none_held is h = (subst (λ (p : Result (Option Held) E). IsParsed program words (parsed_held asked p)) is h).asked
+
+  pub failed_held : (e : E) → parsed ≡ Err e → IsParsed program words (parsed_held asked parsed) → (command : Command) × program.AsksFor words command
+  failed_held e is h = (subst (λ (p : Result (Option Held) E). IsParsed program words (parsed_held asked p)) is h).memory refl
 
 -- ---- a run of a command, which ends by its result
 

@@ -6,7 +6,7 @@ use Rattle.der_core.specs.Counts.{GoesOn, HasRisen, RisesBy}
 use Rattle.program_frame.specs.declared.error.FileError.{FileError}
 use Rattle.program_frame.specs.declared.error.FileError.TheVariants as file
 use Rattle.program_frame.specs.Limits.{longest_file, IsWholeFile, IsLongFile, IsMissingFile, AreWholeFiles, HasFiles, HasLongFile}
-use Rattle.program_frame.specs.ReadFiles.{AreUnread, FindsLongFile, HandsOut, total_length}
+use Rattle.program_frame.specs.ReadFiles.{AreRead, AreUnread, FindsLongFile, HandsOut, total_length}
 use Rattle.program_frame.specs.Shelf.{Files, ShelfState, file_of}
 use Rattle.program_frame.proofs.Reading.{goes_further, has_risen_since, rises_more}
 
@@ -60,6 +60,16 @@ rises_with octets contents more before between after first rest =
     let all = rises_more before between after (length octets) (total_length contents + more) first rest in
     let total = sum_by-cons (λ (o : List ℕ). length o) octets contents in
     subst (λ (n : ℕ). RisesBy n before after) (omega (arith, total)) all
+
+-- if it is the only one
+pub read_only : (before after : ShelfState) (name octets : List ℕ) (names : List (List ℕ)) → names ≡ name ∷ [] → IsWholeFile before.files name octets
+    → HandsOut (length octets) before after → AreRead before after names (octets ∷ [])
+read_only before after name octets names are whole given =
+    let total = sum_by-cons (λ (o : List ℕ). length o) octets [] in
+    subst (λ (ns : List (List ℕ)). AreRead before after ns (octets ∷ [])) (sym are) (record {
+      are_files = (whole, tt);
+      given = subst (λ (n : ℕ). HandsOut n before after) (omega (arith, total)) given;
+    })
 
 module _ (before between after : ShelfState) (name : List ℕ) (names : List (List ℕ)) (e : FileError) where
   long_ahead : (long : e ≡ file.TooLong → IsSome before.files → IsLongFile before.files name)

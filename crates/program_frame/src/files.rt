@@ -95,8 +95,8 @@ impl<'a> Names<'a> {
     /// Those behind the first, if there are any.
     fn behind(self) -> Option<Names<'a>>
         ensures { MatchOption result
-            (names_held self ≡ self.first.now ∷ [])
-            (λ behind. names_held self ≡ self.first.now ∷ names_held behind) }
+            (names_held self.entry ≡ self.entry.first.now ∷ [])
+            (λ behind. names_held self.entry ≡ self.entry.first.now ∷ names_held behind) }
     {
         match self.others {
             [next, others @ ..] => Some(Names {
@@ -138,10 +138,10 @@ pub(crate) fn read_files<F: Shelf>(
     names: Names<'_>,
 ) -> Result<Contents, FileError>
     ensures read { MatchResult result
-        (λ read. AreRead (F.state shelf.old) (F.state shelf.new) (names_held names)
+        (λ read. AreRead (F.state shelf.old) (F.state shelf.new) (names_held names.entry)
         (contents_held read))
-        (AreUnread (F.state shelf.old) (F.state shelf.new) (names_held names)) }
-    ensures at_most { HandsOutAtMost (length (names_held names))
+        (AreUnread (F.state shelf.old) (F.state shelf.new) (names_held names.entry)) }
+    ensures at_most { HandsOutAtMost (length (names_held names.entry))
         (F.state shelf.old) (F.state shelf.new) }
     ensures once { FailsOnce (result ≡ Err FileError.Fault)
         (F.state shelf.old).faults (F.state shelf.new).faults }
@@ -164,10 +164,10 @@ fn append_files<F: Shelf>(
     ensures read { OnOk result ((read : List (List ℕ))
         × (map (λ octets. octets.items) contents.new.items
         ≡ map (λ octets. octets.items) contents.old.items ++ read)
-        × AreRead (F.state shelf.old) (F.state shelf.new) (names_held names) read) }
+        × AreRead (F.state shelf.old) (F.state shelf.new) (names_held names.entry) read) }
     ensures unread { IfErr result
-        (AreUnread (F.state shelf.old) (F.state shelf.new) (names_held names)) }
-    ensures at_most { HandsOutAtMost (length (names_held names))
+        (AreUnread (F.state shelf.old) (F.state shelf.new) (names_held names.entry)) }
+    ensures at_most { HandsOutAtMost (length (names_held names.entry))
         (F.state shelf.old) (F.state shelf.new) }
     ensures once { FailsOnce (result ≡ Err FileError.Fault)
         (F.state shelf.old).faults (F.state shelf.new).faults }

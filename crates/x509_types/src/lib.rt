@@ -13,6 +13,7 @@ pub use attribute::kind::AttributeKind;
 pub use attribute::values::AttributeValues;
 pub use attribute::{Attribute, AttributeList};
 pub use certificate::Certificate;
+pub use certificate::first_fields::issuer_and_serial_at;
 pub use certificate::tbs_certificate::TbsCertificate;
 pub use certificate::validity::Validity;
 pub use certificate::version::Version;
