@@ -1,50 +1,50 @@
 -- What a call over octets does: a run of a program, without shelf and sink.
-use Rattle.std.specs.Prelude.{⊤, ◌≡◌, ◌⊎◌, ℕ, ◌<◌, ◌≤◌, List, [], ◌∷◌, ◌++◌, length, Some, None}
+use Rattle.std.specs.Prelude.{⊤, ◌≡◌, ◌⊎◌, ℕ, ◌<◌, ◌≤◌, List, [], ◌∷◌, ◌++◌, length, Option, Some, None}
 use Rattle.std.specs.Str.{IsUtf8}
 use Rattle.program_frame.specs.Limits.{HasFiles, HasLongFile, IsLongFile}
-use Rattle.program_frame.specs.Question.{Line, HasBadText, IsAnswered}
-use Rattle.program_frame.specs.Run.{Program, AsksForNothing, ForJob}
+use Rattle.program_frame.specs.Commands.{Line, Program, AsksForNothing, ForCommand, HasBadText, IsAnswered}
 use Rattle.program_frame.specs.Shelf.{Files, ShelfState}
 use Rattle.program_frame.specs.Sink.{SinkState}
 use Rattle.program_frame.specs.Statuses as statuses
 use Rattle.door_frame.specs.Words.{lines_of}
 
 -- A call on words and files, with a buffer of this much room: its line, and its status.
-pub record IsCall {Job : Type 0} (program : Program Job) (words : List (List ℕ)) (files : Files)
-    (room : ℕ) (line : List ℕ) (status : ℕ) : Type 0 where
+pub record IsCall {Command : Type 0} (program : Program Command) (words : List (List ℕ))
+    (files : Files) (room : ℕ) (line : List ℕ) (status : ℕ) : Type 0 where
   -- there is no other status
   pub bounded : status ≤ statuses.out_of_memory
   -- an acceptance or a refusal is the answer about these files, and this is its line
-  pub reported : status ≤ statuses.refused → ForJob program words
-      (λ question. IsAnswered (Some files) question (record { status = status; text = line }))
+  pub reported : status ≤ statuses.refused → ForCommand program words (λ command.
+      IsAnswered program (Some files) command (record { status = status; text = line }))
   -- the words are no command
   pub usage : status ≡ statuses.usage → AsksForNothing program words
   pub usage_always : AsksForNothing program words
       → (status ≡ statuses.usage) ⊎ (status ≡ statuses.out_of_memory)
   -- a text has a bad line
-  pub bad_table : status ≡ statuses.bad_table → ForJob program words (HasBadText (Some files))
-  pub bad_table_always : (job : Job) → program.AsksFor words job
-      → HasBadText (Some files) (program.question_of job)
+  pub bad_table : status ≡ statuses.bad_table
+      → ForCommand program words (HasBadText program (Some files))
+  pub bad_table_always : (command : Command) → program.AsksFor words command
+      → HasBadText program (Some files) command
       → (status ≡ statuses.bad_table) ⊎ (status ≡ statuses.out_of_memory)
   -- a file isn't there
-  pub no_file : status ≡ statuses.shelf_failed → (job : Job) → program.AsksFor words job
-      → HasFiles (Some files) (program.question_of job).files → ⊥
+  pub no_file : status ≡ statuses.shelf_failed → (command : Command)
+      → program.AsksFor words command → HasFiles (Some files) (program.files_of command) → ⊥
   -- a missing file has this status, unless an earlier one is too long
-  pub missing : (job : Job) (ahead behind : List (List ℕ)) (name : List ℕ)
-      → program.AsksFor words job → (program.question_of job).files ≡ ahead ++ name ∷ behind
+  pub missing : (command : Command) (ahead behind : List (List ℕ)) (name : List ℕ)
+      → program.AsksFor words command → program.files_of command ≡ ahead ++ name ∷ behind
       → files name ≡ None
       → ((status ≡ statuses.shelf_failed) ⊎ (status ≡ statuses.out_of_memory))
       ⊎ ((status ≡ statuses.too_long) × HasLongFile (Some files) ahead)
   -- the line of the answer is longer than the buffer
   pub no_room : status ≡ statuses.sink_failed → (answer : Line)
-      × ForJob program words (λ question. IsAnswered (Some files) question answer)
+      × ForCommand program words (λ command. IsAnswered program (Some files) command answer)
       × (room < length answer.text)
   -- a file is too long
-  pub too_long : status ≡ statuses.too_long
-      → ForJob program words (λ question. HasLongFile (Some files) question.files)
+  pub too_long : status ≡ statuses.too_long → ForCommand program words
+      (λ command. HasLongFile (Some files) (program.files_of command))
   -- a file that is too long has this status, unless an earlier one is missing
-  pub too_long_always : (job : Job) (ahead behind : List (List ℕ)) (name : List ℕ)
-      → program.AsksFor words job → (program.question_of job).files ≡ ahead ++ name ∷ behind
+  pub too_long_always : (command : Command) (ahead behind : List (List ℕ)) (name : List ℕ)
+      → program.AsksFor words command → program.files_of command ≡ ahead ++ name ∷ behind
       → IsLongFile (Some files) name
       → ((status ≡ statuses.too_long) ⊎ (status ≡ statuses.out_of_memory))
       ⊎ ((status ≡ statuses.shelf_failed) × (HasFiles (Some files) ahead → ⊥))
@@ -52,13 +52,13 @@ pub record IsCall {Job : Type 0} (program : Program Job) (words : List (List ℕ
   pub no_line : statuses.usage ≤ status → line ≡ []
   -- the answer about the files is reported, unless memory runs out or its line is longer than the
   -- buffer
-  pub answered : (job : Job) (answer : Line) → program.AsksFor words job
-      → IsAnswered (Some files) (program.question_of job) answer
+  pub answered : (command : Command) (answer : Line) → program.AsksFor words command
+      → IsAnswered program (Some files) command answer
       → (((status ≡ answer.status) × (line ≡ answer.text)) ⊎ (status ≡ statuses.out_of_memory))
       ⊎ ((status ≡ statuses.sink_failed) × (room < length answer.text))
 
 -- A call with words in one text, a word a line. Of a text that isn't UTF-8 nothing is read.
-pub record IsCallOf {Job : Type 0} (program : Program Job) (text : List ℕ) (files : Files)
+pub record IsCallOf {Command : Type 0} (program : Program Command) (text : List ℕ) (files : Files)
     (room : ℕ) (line : List ℕ) (status : ℕ) : Type 0 where
   pub call : IsUtf8 text → IsCall program (lines_of text) files room line status
   pub no_words : (IsUtf8 text → ⊥) → (status ≡ statuses.usage) × (line ≡ [])
@@ -90,3 +90,9 @@ pub record ForShelf (Holds : ShelfState → Type 0) : Type 0 where
   pub given : ℕ
   pub faults : ℕ
   pub holds : Holds (lent_shelf files rest given faults)
+
+-- What acceptance of a call means, if it means this of a run.
+abbrev pub IsAcceptedCall : (Acceptance : (words : List (List ℕ)) → (shelf shelf_now : ShelfState)
+    → (held held_now : Option (List ℕ)) → Type 0) → (text : List ℕ) → Files → (line : List ℕ) → Type 0
+IsAcceptedCall Acceptance text files line = ForShelf (λ shelf_now.
+    Acceptance (lines_of text) (unread_files files) shelf_now (Some []) (Some line))

@@ -3,6 +3,7 @@
 //! table that the caller keeps between calls.
 #![tactic(auto)]
 
+mod call;
 mod files;
 mod handing;
 mod lent;
@@ -10,6 +11,7 @@ mod pool;
 mod table_handle;
 mod words;
 
+pub use call::call;
 pub use files::LentFile;
 pub use handing::{HandedOut, hand_out};
 pub use lent::LentShelf;

@@ -1,5 +1,5 @@
 -- What is accepted is vouched for.
-use Rattle.std.proofs.Common.{◌≡◌, List, [], ◌∷◌, ℕ, ◌+◌, length, Option, Some, None, Result, Ok, Err, inl, inr, refl, sym, subst, ◌∙◌, arith}
+use Rattle.std.proofs.Common.{◌≡◌, List, [], ◌∷◌, ℕ, ◌+◌, length, Option, Some, None, Result, Ok, Err, inl, inr, refl, sym, ap, subst, ◌∙◌, arith}
 use Rattle.std.specs.Borrow.{Bor}
 use Rattle.std.proofs.lemmas.List.Sums.{sum_by-cons}
 use Rattle.asn1_types.specs.declared.generalized_time.GeneralizedTime.{GeneralizedTime}
@@ -16,19 +16,19 @@ use Rattle.authenticode_core.proofs.OneData.{one_data}
 use Rattle.program_frame.specs.Limits.{AreWholeFiles}
 use Rattle.program_frame.specs.ListOption.{AskedList, list_files}
 use Rattle.program_frame.specs.Options.{CheckOptions}
-use Rattle.program_frame.specs.Question.{Line}
+use Rattle.program_frame.specs.Commands.{Line}
 use Rattle.program_frame.specs.ReadFiles.{HandsOut, total_length}
 use Rattle.program_frame.specs.Run.{IsRunAnswer}
 use Rattle.program_frame.specs.Shelf.{Files, ShelfState}
 use Rattle.program_frame.specs.Sink.{Appends}
-use Rattle.pe_image.specs.Commands.{IsAnswerTo, command_line, table_in}
+use Rattle.pe_image.specs.Commands.{IsAnswerTo, program, table_in}
 use Rattle.pe_image.specs.ImageHash.{IsImageHash}
 use Rattle.pe_image.specs.ListAnswer.{IsListAnswer}
 use Rattle.pe_image.specs.PeAnswer.{IsPeAnswer, policy_for}
 use Rattle.pe_image.specs.ProgramPolicy.{program_policy}
 use Rattle.pe_image.specs.Report.{report_line, status_of}
 use Rattle.pe_image.specs.Vouched.{IsGivenList, IsVouchedImage, IsVouchedProgram}
-use Rattle.pe_image.specs.Words.{AsksFor, Job, files_of}
+use Rattle.pe_image.specs.Words.{AsksFor, Command, files_of}
 use Rattle.pe_image.specs.declared.error.PeCheckError.{PeCheckError}
 use Rattle.pe_image.proofs.ImageHashes.{named_by}
 
@@ -90,16 +90,16 @@ module _ (words : List (List ℕ)) (shelf shelf_now : ShelfState) (held held_now
       let one = sum_by-cons (λ (o : List ℕ). length o) second lists in
       subst (λ (n : ℕ). HandsOut n shelf shelf_now) (omega (arith, all, one)) given
 
-  module _ (job : Job) (asked : AsksFor words job) (rows : List VerdictRow) where
-    of_contents : (contents : List (List ℕ)) (answer : Result Accepted PeCheckError) → AreWholeFiles shelf.files (files_of job) contents → IsTable (table_in contents) rows
-        → IsAnswerTo (verdict_of rows) job contents answer → status_of answer ≡ 0 → HandsOut (total_length contents) shelf shelf_now
+  module _ (command : Command) (asked : AsksFor words command) (rows : List VerdictRow) where
+    of_contents : (contents : List (List ℕ)) (answer : Result Accepted PeCheckError) → AreWholeFiles shelf.files (files_of command) contents → IsTable (table_in command contents) rows
+        → IsAnswerTo (verdict_of rows) command contents answer → status_of answer ≡ 0 → HandsOut (total_length contents) shelf shelf_now
         → Appends held (report_line answer) held_now → IsVouchedProgram words shelf shelf_now held held_now
     of_contents [] answer are is_table is_answer zero given written = absurd are
     of_contents (octets ∷ []) answer are is_table is_answer zero given written = absurd are.1
     of_contents (octets ∷ text ∷ lists) (Err e) are is_table is_answer zero given written = absurd (omega (arith, zero))
     of_contents (octets ∷ text ∷ lists) (Ok a) are is_table is_answer zero given written =
-        let list = given_list shelf.files (verdict_of rows) (program_policy job.date job.options) octets a job.options.list lists are.1.1 is_answer in record {
-          job = job;
+        let list = given_list shelf.files (verdict_of rows) (program_policy command.date command.options) octets a command.options.list lists are.1.1 is_answer in record {
+          command = command;
           asked = asked;
           octets = octets;
           text = text;
@@ -112,14 +112,14 @@ module _ (words : List (List ℕ)) (shelf shelf_now : ShelfState) (held held_now
           rows = rows;
           is_table = is_table;
           accepted = a;
-          vouched = vouched_image rows job.date job.options list.list octets a list.answer;
+          vouched = vouched_image rows command.date command.options list.list octets a list.answer;
           written = written;
         }
 
-  pub vouched_for : (line : Line) → IsRunAnswer command_line words shelf shelf_now line → line.status ≡ 0 → Appends held line.text held_now
+  pub vouched_for : (line : Line) → IsRunAnswer program words shelf shelf_now line → line.status ≡ 0 → Appends held line.text held_now
       → IsVouchedProgram words shelf shelf_now held held_now
   vouched_for line h zero written =
       let read = h.2 in
       let returned = read.is_answered.is_answer in
-      of_contents h.0 h.1 returned.rows read.is_answered.contents returned.answer read.is_answered.are_files returned.is_table returned.is_answer (sym returned.status ∙ zero) read.given
-      (subst (λ (text : List ℕ). Appends held text held_now) returned.text written)
+      of_contents h.0 h.1 returned.rows read.is_answered.contents returned.answer read.is_answered.are_files returned.is_table returned.is_answer (sym (ap (λ (l : Line). l.status) returned.line_is) ∙ zero) read.given
+      (subst (λ (text : List ℕ). Appends held text held_now) (ap (λ (l : Line). l.text) returned.line_is) written)

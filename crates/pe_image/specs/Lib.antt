@@ -1,16 +1,15 @@
 -- Promises, which public contracts cite: of the check `PeAnswer`, `ImageHash`, `RefusalName`,
 -- `Refusals`; of the program `Vouched`, `Run`, `Words`.
 -- Rules, which the promises rest on: `ProgramPolicy`, `ListAnswer`, `Report`, `Commands`.
--- Inside, which no public contract cites: `Jobs`.
+-- Inside, which no public contract cites: `HeldCommand`.
 pub mod PeAnswer
 pub mod ImageHash
 pub mod RefusalName
 pub mod Refusals
 pub mod Words
-pub mod Jobs
+pub mod HeldCommand
 pub mod ProgramPolicy
 pub mod ListAnswer
 pub mod Report
 pub mod Commands
-pub mod Run
 pub mod Vouched

@@ -24,7 +24,7 @@ use Rattle.pe_image.specs.ImageHash.{StatesDigest}
 use Rattle.pe_image.specs.PeAnswer.{policy_for}
 use Rattle.pe_image.specs.ProgramPolicy.{program_policy}
 use Rattle.pe_image.specs.Report.{accepted_line}
-use Rattle.pe_image.specs.Words.{Job, AsksFor}
+use Rattle.pe_image.specs.Words.{Command, AsksFor}
 
 -- The list file is signed data whose content is read as a trust list. Its octets are those of the
 -- file as far as the shelf exposes its files.
@@ -86,20 +86,20 @@ pub record IsVouchedImage (rows : List VerdictRow) (policy : Policy) (octets : L
 -- appended.
 pub record IsVouchedProgram (words : List (List ℕ)) (shelf shelf_now : ShelfState)
     (held held_now : Option (List ℕ)) : Type 0 where
-  pub job : Job
-  pub asked : AsksFor words job
+  pub command : Command
+  pub asked : AsksFor words command
   -- the files
   pub octets : List ℕ
   pub text : List ℕ
   pub lists : List (List ℕ)
-  pub program_file : IsWholeFile shelf.files job.file octets
-  pub table_file : IsWholeFile shelf.files job.table text
+  pub program_file : IsWholeFile shelf.files command.file octets
+  pub table_file : IsWholeFile shelf.files command.table text
   pub list : Option (Bor CertificateTrustList)
-  pub list_given : IsGivenList shelf.files job.options.list lists list
+  pub list_given : IsGivenList shelf.files command.options.list lists list
   pub given : HandsOut (length octets + length text + total_length lists) shelf shelf_now
   -- what is in them
   pub rows : List VerdictRow
   pub is_table : IsTable text rows
   pub accepted : Accepted
-  pub vouched : IsVouchedImage rows (program_policy job.date job.options list) octets accepted
+  pub vouched : IsVouchedImage rows (program_policy command.date command.options list) octets accepted
   pub written : Appends held (accepted_line accepted) held_now

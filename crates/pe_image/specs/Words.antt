@@ -8,24 +8,24 @@ use Rattle.program_frame.specs.Options.{AreOptions, CheckOptions}
 -- A check of the program in FILE: its signature, which TABLE accepts, and the signer's certificate
 -- with those of its issuers, at DATE, except for what the options leave out; and its CA on a trust
 -- list, if they name one.
-pub record Job : Type 0 where
+pub record Command : Type 0 where
   pub file : List ℕ
   pub table : List ℕ
   pub date : GeneralizedTime
   pub options : CheckOptions
 
 -- the names of its files, in the order of reading
-abbrev pub files_of : Job → List (List ℕ)
-files_of job = job.file ∷ job.table ∷ list_files job.options.list
+abbrev pub files_of : Command → List (List ℕ)
+files_of command = command.file ∷ command.table ∷ list_files command.options.list
 
--- The words request this job: FILE TABLE DATE, then options.
-pub record AsksFor (words : List (List ℕ)) (job : Job) : Type 0 where
+-- The words request this command: FILE TABLE DATE, then options.
+pub record AsksFor (words : List (List ℕ)) (command : Command) : Type 0 where
   pub date_word : List ℕ
   pub option_words : List (List ℕ)
-  pub words_are : words ≡ job.file ∷ job.table ∷ date_word ∷ option_words
-  pub date_is : IsDateWord date_word job.date
-  pub options_are : AreOptions option_words job.options
+  pub words_are : words ≡ command.file ∷ command.table ∷ date_word ∷ option_words
+  pub date_is : IsDateWord date_word command.date
+  pub options_are : AreOptions option_words command.options
 
 -- the words request nothing
 abbrev pub AsksForNothing : List (List ℕ) → Type 0
-AsksForNothing words = (job : Job) → AsksFor words job → ⊥
+AsksForNothing words = (command : Command) → AsksFor words command → ⊥

@@ -4,11 +4,11 @@
 //! files and an output from the caller.
 #![tactic(auto)]
 
+mod answering;
 mod check;
 mod content;
 mod error;
 mod hashing;
-mod inquiry;
 mod policy;
 mod program;
 mod report;
@@ -18,4 +18,4 @@ pub use check::check_pe;
 pub use error::PeCheckError;
 pub use hashing::image_hash;
 pub use pe_core::{PeError, PeImage};
-pub use program::{run, run_with};
+pub use program::{run, Checks};

@@ -1,7 +1,8 @@
 //! The line that a run reports, and its status.
 
 ghost use Rattle.std.specs.Prelude.{◌≡◌, IfOk, string_bytes};
-ghost use Rattle.pe_image.specs.Report.{IsReported, accepted_line, refused_line};
+ghost use Rattle.program_frame.specs.Reports.{IsReported};
+ghost use Rattle.pe_image.specs.Report.{accepted_line, refused_line, reporting};
 
 use crate::error::PeCheckError;
 use authenticode_core::Accepted;
@@ -13,7 +14,7 @@ pub(crate) fn report_of(
     alloc: Global,
     answer: &Result<Accepted, PeCheckError>,
 ) -> Result<Report, Stop>
-    ensures { IsReported answer.now result }
+    ensures { IsReported reporting answer.now result }
 {
     match answer {
         Ok(accepted) => Ok(Report {

@@ -1,8 +1,8 @@
 //! The words of the command line.
 
 ghost use Rattle.std.specs.Prelude.{◌≡◌, Some, map, MatchOption, option_map, string_bytes};
-ghost use Rattle.pe_image.specs.Jobs.{job_held};
-ghost use Rattle.pe_image.specs.Words.{AsksFor, AsksForNothing, Job as AskedJob};
+ghost use Rattle.pe_image.specs.HeldCommand.{command_held};
+ghost use Rattle.pe_image.specs.Words.{AsksFor, AsksForNothing, Command as AskedCommand};
 
 use names_core::UtcDate;
 use program_frame::{CheckOptions, date_of, options_of};
@@ -10,20 +10,20 @@ use program_frame::{CheckOptions, date_of, options_of};
 /// A check of a program by a verdict table, at a date or over an interval, and whether a trust list
 /// has its signer's CA.
 #[derive(Clone, Copy, Debug)]
-pub(crate) struct Job<'a> {
+pub(crate) struct Command<'a> {
     pub(crate) file: &'a str,
-    pub(crate) table: &'a str,
+    pub(crate) table: &'a String,
     pub(crate) date: UtcDate,
     pub(crate) options: CheckOptions<'a>,
 }
 
 /// Parses the words FILE TABLE DATE and options. None exactly if they aren't these.
-pub(crate) fn job_of(words: &[String]) -> Option<Job<'_>>
+pub(crate) fn command_of(words: &[String]) -> Option<Command<'_>>
     ensures asked { MatchOption result
         (AsksForNothing (map string_bytes words.now))
-        (λ held. AsksFor (map string_bytes words.now) (job_held held)) }
-    ensures only { (asked : AskedJob) → AsksFor (map string_bytes words.now) asked
-        → option_map job_held result ≡ Some asked }
+        (λ held. AsksFor (map string_bytes words.now) (command_held held)) }
+    ensures only { (asked : AskedCommand) → AsksFor (map string_bytes words.now) asked
+        → option_map command_held result ≡ Some asked }
 {
     let [file, table, date, options @ ..] = words else {
         return None;
@@ -34,9 +34,9 @@ pub(crate) fn job_of(words: &[String]) -> Option<Job<'_>>
     let Some(options) = options_of(options) else {
         return None;
     };
-    Some(Job {
+    Some(Command {
         file: file.as_str(),
-        table: table.as_str(),
+        table,
         date,
         options,
     })

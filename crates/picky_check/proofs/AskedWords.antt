@@ -7,15 +7,15 @@ use Rattle.std.proofs.lemmas.Slice.Eq.{bytes_eq-Decides}
 use Rattle.asn1_types.specs.declared.generalized_time.GeneralizedTime.{GeneralizedTime}
 use Rattle.program_frame.specs.DateWord.{IsDateWord}
 use Rattle.program_frame.specs.Options.{AreOptions, CheckOptions}
-use Rattle.picky_check.specs.Words.{Job, Basic, Check, Chain, AsksFor, IsCheck, asked_hash}
+use Rattle.picky_check.specs.Words.{Command, Basic, Check, Chain, AsksFor, IsCheck, asked_hash}
 
 pub some_is : {A : Type 0} (o : Option A) → IsSome o → (x : A) × (o ≡ Some x)
 some_is (Some x) there = (x, refl)
 some_is None there = absurd cc
 
--- if there are three words after it and the last is a hash, they request a job
+-- if there are three words after it and the last is a hash, they request a command
 pub basic_asks : {W : Type 0} (text : W → List ℕ) (words : List W) (word : W) → length words ≡ 3 → word ≡ get_or words 2 word → IsSome (asked_hash (text word))
-    → (job : Job) × AsksFor (codes "basic" ∷ map text words) job
+    → (command : Command) × AsksFor (codes "basic" ∷ map text words) command
 basic_asks text (signature ∷ table ∷ hash ∷ []) word three last there =
     let known = some_is (asked_hash (text word)) there in
     (Basic (text signature) (text table) known.0, record { word = text hash; words_are = refl; hash_is = ap (λ w. asked_hash (text w)) (sym last) ∙ known.1 })
@@ -81,13 +81,13 @@ module _ (signature table hash_word date_word : List ℕ) (option_words : List (
       chain_is_not_check (sym (first_word (codes "check") (codes "chain") (signature ∷ table ∷ hash_word ∷ date_word ∷ option_words) (t ∷ asked.word ∷ names) asked.words_are))
 
   -- if those after the date are no options, they are no command
-  pub no_check : ((o : CheckOptions) → AreOptions option_words o → ⊥) → (job : Job) → AsksFor Words job → ⊥
+  pub no_check : ((o : CheckOptions) → AreOptions option_words o → ⊥) → (command : Command) → AsksFor Words command → ⊥
   no_check none (Basic s t h) asked = let are = asked.words_are in absurd cc
   no_check none (Check s t h d o) asked = none o (options_in s t h d o asked)
   no_check none (Chain t d names) asked = no_chain t d names asked
 
   module _ (date : GeneralizedTime) (options : CheckOptions) where
-    pub asks_check : (hash : List ℕ) × (asked_hash hash_word ≡ Some hash) → IsDateWord date_word date → AreOptions option_words options → (job : Job) × AsksFor Words job
+    pub asks_check : (hash : List ℕ) × (asked_hash hash_word ≡ Some hash) → IsDateWord date_word date → AreOptions option_words options → (command : Command) × AsksFor Words command
     asks_check hash date_is options_are = (
       Check signature table hash.0 date options,
       record {
@@ -101,10 +101,10 @@ module _ (signature table hash_word date_word : List ℕ) (option_words : List (
       },
     )
 
-    -- they request one job
+    -- they request one command
     pub only_check : (hash : List ℕ) → asked_hash hash_word ≡ Some hash → ((d : GeneralizedTime) → IsDateWord date_word d → Some date ≡ Some d)
-        → ((o : CheckOptions) → AreOptions option_words o → Some options ≡ Some o) → (job : Job) → AsksFor Words job
-        → Some (Check signature table hash date options) ≡ Some job
+        → ((o : CheckOptions) → AreOptions option_words o → Some options ≡ Some o) → (command : Command) → AsksFor Words command
+        → Some (Check signature table hash date options) ≡ Some command
     only_check hash hash_is dates all (Basic s t h) asked = let are = asked.words_are in absurd cc
     only_check hash hash_is dates all (Chain t d names) asked = absurd (no_chain t d names asked)
     only_check hash hash_is dates all (Check s t h d o) asked =

@@ -4,7 +4,6 @@ pub mod Reported
 pub mod GivenLists
 pub mod ListAnswers
 pub mod Verdicts
-pub mod ReadCertificates
 pub mod VouchedChains
 pub mod VouchedSignatures
 pub mod Vouching

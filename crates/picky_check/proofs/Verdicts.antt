@@ -19,10 +19,11 @@ use Rattle.x509_core.specs.declared.validator.ChainChecks.{ChainChecks}
 use Rattle.program_frame.specs.declared.report.Report.{Report}
 use Rattle.program_frame.specs.declared.stop.Stop.{Stop}
 use Rattle.picky_check.specs.Answer.{IsCertificateAnswer}
-use Rattle.picky_check.specs.ChainAnswer.{AreKeptCertificates, IsFirstUnread, IsChainJudged, IsChainAnswer, all_checks}
-use Rattle.picky_check.specs.Report.{Answer, OfSignature, OfChain, IsOutOfMemory}
-use Rattle.picky_check.specs.Inquiry.{IsReported, GivesReport, Reports}
-use Rattle.picky_check.proofs.Reported.{reported_is, out_of_memory, GivesReport-reported}
+use Rattle.picky_check.specs.ChainAnswer.{IsChainJudged, IsChainAnswer, all_checks}
+use Rattle.x509_core.specs.KeptCertificates.{AreKeptCertificates, IsFirstUnread}
+use Rattle.picky_check.specs.Report.{Answer, OfSignature, OfChain, IsOutOfMemory, reporting}
+use Rattle.program_frame.specs.Reports.{IsReported, GivesReport, Reports}
+use Rattle.program_frame.proofs.Reporting.{reported_is, out_of_memory}
 
 -- one is out of memory, or they have one name
 abbrev IsNamedAlike : CertError → CertError → Type 0
@@ -109,28 +110,28 @@ module _ (unbroken : (judge : Judge) (checks : ChainChecks) (checked : KeptCerti
   one_name judge date octets e f (inr a) (inr b) =
       judged_alike judge date a.0 e f a.2 (subst (λ (cs : List KeptCertificate). IsChainJudged judge date cs (Err f)) (same_certificates b.0 a.0 (b.1 ∙ sym a.1)) b.2)
 
-  refused_alike : (e f : CertError) (result : Result Report Stop) → IsNamedAlike e f → IsReported (OfChain (Err e)) result
-      → (IsOutOfMemory (OfChain (Err f)) → ⊥) → IsReported (OfChain (Err f)) result
-  refused_alike e f result (inl memory) h other = out_of_memory (OfChain (Err e)) (OfChain (Err f)) result (wants e memory) h
+  refused_alike : (e f : CertError) (result : Result Report Stop) → IsNamedAlike e f → IsReported reporting (OfChain (Err e)) result
+      → (IsOutOfMemory (OfChain (Err f)) → ⊥) → IsReported reporting (OfChain (Err f)) result
+  refused_alike e f result (inl memory) h other = out_of_memory reporting (OfChain (Err e)) (OfChain (Err f)) result (wants e memory) h
   refused_alike e f result (inr (inl memory)) h other = absurd (other (wants f memory))
   refused_alike e f (Ok report) (inr (inr name)) h other =
       record { reportable = other; status = h.status; line = h.line ∙ ap (λ (text : List ℕ). codes "refused " ++ text ++ 10 ∷ []) name }
   refused_alike e f (Err s) (inr (inr name)) h other = h
 
   given_chain : (judge : Judge) (date : GeneralizedTime) (octets : List (List ℕ)) (a b : Result ℕ CertError) (result : Result Report Stop)
-      → IsReported (OfChain a) result → IsChainAnswer judge date octets a → IsChainAnswer judge date octets b → GivesReport (OfChain b) result
+      → IsReported reporting (OfChain a) result → IsChainAnswer judge date octets a → IsChainAnswer judge date octets b → GivesReport reporting (OfChain b) result
   given_chain judge date octets (Ok m) (Ok n) result h is also =
-      GivesReport-reported (OfChain (Ok n)) result (subst (λ (k : ℕ). IsReported (OfChain (Ok k)) result) (same_count judge date octets m n is also) h)
+      λ other. (subst (λ (k : ℕ). IsReported reporting (OfChain (Ok k)) result) (same_count judge date octets m n is also) h)
   given_chain judge date octets (Ok m) (Err f) result h is also = λ other. absurd (other (wants f (refused_is_memory judge date octets m f is also)))
-  given_chain judge date octets (Err e) (Ok n) result h is also = λ other. out_of_memory (OfChain (Err e)) (OfChain (Ok n)) result (wants e (refused_is_memory judge date octets n e also is)) h
+  given_chain judge date octets (Err e) (Ok n) result h is also = λ other. out_of_memory reporting (OfChain (Err e)) (OfChain (Ok n)) result (wants e (refused_is_memory judge date octets n e also is)) h
   given_chain judge date octets (Err e) (Err f) result h is also = λ other. refused_alike e f result (one_name judge date octets e f is also) h other
 
-  given_each : (judge : Judge) (date : GeneralizedTime) (octets : List (List ℕ)) (a : Result ℕ CertError) (result : Result Report Stop) → IsReported (OfChain a) result
-      → IsChainAnswer judge date octets a → (b : Answer) → IsCertificateAnswer judge date octets b → GivesReport b result
+  given_each : (judge : Judge) (date : GeneralizedTime) (octets : List (List ℕ)) (a : Result ℕ CertError) (result : Result Report Stop) → IsReported reporting (OfChain a) result
+      → IsChainAnswer judge date octets a → (b : Answer) → IsCertificateAnswer judge date octets b → GivesReport reporting b result
   given_each judge date octets a result h is (OfSignature b) also = absurd also
   given_each judge date octets a result h is (OfChain b) also = given_chain judge date octets a b result h is also
 
   pub chain_reported : (judge : Judge) (date : GeneralizedTime) (octets : List (List ℕ)) (a : Result ℕ CertError) (result : Result Report Stop)
-      → IsChainAnswer judge date octets a → IsReported (OfChain a) result → Reports (IsCertificateAnswer judge date octets) result
+      → IsChainAnswer judge date octets a → IsReported reporting (OfChain a) result → Reports reporting (IsCertificateAnswer judge date octets) result
   chain_reported judge date octets a result is h =
-      reported_is (IsCertificateAnswer judge date octets) (OfChain a) result is h (given_each judge date octets a result h is)
+      reported_is reporting (IsCertificateAnswer judge date octets) (OfChain a) result is h (given_each judge date octets a result h is)

@@ -1,5 +1,5 @@
 -- What is accepted is vouched for.
-use Rattle.std.proofs.Common.{◌≡◌, List, [], ◌∷◌, ℕ, ◌+◌, length, Option, Some, None, Result, Ok, Err, inl, inr, refl, sym, subst, ◌∙◌, arith}
+use Rattle.std.proofs.Common.{◌≡◌, List, [], ◌∷◌, ℕ, ◌+◌, length, Option, Some, None, Result, Ok, Err, inl, inr, refl, sym, ap, subst, ◌∙◌, arith}
 use Rattle.std.specs.Borrow.{Bor}
 use Rattle.std.proofs.lemmas.List.Sums.{sum_by-cons}
 use Rattle.asn1_types.specs.declared.generalized_time.GeneralizedTime.{GeneralizedTime}
@@ -23,13 +23,13 @@ use Rattle.program_frame.specs.Limits.{AreWholeFiles}
 use Rattle.program_frame.specs.ListOption.{AskedList, list_files}
 use Rattle.picky_check.specs.Policies.{check_policy}
 use Rattle.picky_check.specs.Report.{Answer, OfSignature, OfChain, accepted_line, parents_line, report_line, status_of}
-use Rattle.program_frame.specs.Question.{Line}
+use Rattle.program_frame.specs.Commands.{Line}
 use Rattle.program_frame.specs.Run.{IsRunAnswer}
 use Rattle.program_frame.specs.Shelf.{Files, ShelfState}
 use Rattle.picky_check.specs.SignatureAnswer.{IsListAnswer}
 use Rattle.program_frame.specs.Sink.{Appends}
 use Rattle.picky_check.specs.Vouched.{IsVouched}
-use Rattle.picky_check.specs.Words.{Job, Basic, Check, Chain, AsksFor, files_of}
+use Rattle.picky_check.specs.Words.{Command, Basic, Check, Chain, AsksFor, files_of}
 use Rattle.picky_check.proofs.VouchedChains.{vouched_chain}
 use Rattle.picky_check.proofs.VouchedSignatures.{vouched_basic, vouched_check}
 
@@ -99,7 +99,7 @@ module _ (one_signed_data : (octets : List ℕ) (f g : SignedDataElements) → H
   of_chain table date names (text ∷ octets) rows count asked are is_table is_answer given written =
       vouched_chain words shelf shelf_now held held_now table date names asked text rows octets are.0 are.1 (first_and_others text octets given) is_table count is_answer written
 
-  -- an answer to one job is none to another
+  -- an answer of one command is none of another
   no_chain_for_basic : (signature table hash : List ℕ) (contents : List (List ℕ)) (rows : List VerdictRow) (given : Result ℕ CertError)
       → IsAnswerTo (verdict_of rows) (Basic signature table hash) contents (OfChain given) → ⊥
   no_chain_for_basic signature table hash [] rows given is_answer = is_answer
@@ -119,22 +119,22 @@ module _ (one_signed_data : (octets : List ℕ) (f g : SignedDataElements) → H
   no_signature_for_chain table date names (text ∷ octets) rows given is_answer = is_answer
 
   module _ (contents : List (List ℕ)) (rows : List VerdictRow) (given : HandsOut (total_length contents) shelf shelf_now) where
-    vouched_for_job : (job : Job) (answer : Answer) → AsksFor words job → AreWholeFiles shelf.files (files_of job) contents → IsTable (table_in job contents) rows
-        → IsAnswerTo (verdict_of rows) job contents answer → status_of answer ≡ 0 → Appends held (report_line answer) held_now → IsVouched words shelf shelf_now held held_now
-    vouched_for_job (Basic signature table hash) (OfSignature (Ok a)) asked are is_table is_answer zero written =
+    vouched_for_command : (command : Command) (answer : Answer) → AsksFor words command → AreWholeFiles shelf.files (files_of command) contents → IsTable (table_in command contents) rows
+        → IsAnswerTo (verdict_of rows) command contents answer → status_of answer ≡ 0 → Appends held (report_line answer) held_now → IsVouched words shelf shelf_now held held_now
+    vouched_for_command (Basic signature table hash) (OfSignature (Ok a)) asked are is_table is_answer zero written =
         inl (of_basic signature table hash contents rows a asked are is_table is_answer given written)
-    vouched_for_job (Basic signature table hash) (OfSignature (Err e)) asked are is_table is_answer zero written = absurd (omega arith)
-    vouched_for_job (Basic signature table hash) (OfChain count) asked are is_table is_answer zero written =
+    vouched_for_command (Basic signature table hash) (OfSignature (Err e)) asked are is_table is_answer zero written = absurd (omega arith)
+    vouched_for_command (Basic signature table hash) (OfChain count) asked are is_table is_answer zero written =
         absurd (no_chain_for_basic signature table hash contents rows count is_answer)
-    vouched_for_job (Check signature table hash date options) (OfSignature (Ok a)) asked are is_table is_answer zero written =
+    vouched_for_command (Check signature table hash date options) (OfSignature (Ok a)) asked are is_table is_answer zero written =
         inr (inl (of_check signature table hash date options contents rows a asked are is_table is_answer given written))
-    vouched_for_job (Check signature table hash date options) (OfSignature (Err e)) asked are is_table is_answer zero written = absurd (omega arith)
-    vouched_for_job (Check signature table hash date options) (OfChain count) asked are is_table is_answer zero written =
+    vouched_for_command (Check signature table hash date options) (OfSignature (Err e)) asked are is_table is_answer zero written = absurd (omega arith)
+    vouched_for_command (Check signature table hash date options) (OfChain count) asked are is_table is_answer zero written =
         absurd (no_chain_for_check signature table hash date options contents rows count is_answer)
-    vouched_for_job (Chain table date names) (OfChain (Ok count)) asked are is_table is_answer zero written =
+    vouched_for_command (Chain table date names) (OfChain (Ok count)) asked are is_table is_answer zero written =
         inr (inr (of_chain table date names contents rows count asked are is_table is_answer given written))
-    vouched_for_job (Chain table date names) (OfChain (Err e)) asked are is_table is_answer zero written = absurd (omega arith)
-    vouched_for_job (Chain table date names) (OfSignature a) asked are is_table is_answer zero written =
+    vouched_for_command (Chain table date names) (OfChain (Err e)) asked are is_table is_answer zero written = absurd (omega arith)
+    vouched_for_command (Chain table date names) (OfSignature a) asked are is_table is_answer zero written =
         absurd (no_signature_for_chain table date names contents rows a is_answer)
 
   pub vouched_for : (line : Line) → IsRunAnswer commands words shelf shelf_now line → line.status ≡ 0 → Appends held line.text held_now
@@ -142,5 +142,6 @@ module _ (one_signed_data : (octets : List ℕ) (f g : SignedDataElements) → H
   vouched_for line h zero written =
       let read = h.2 in
       let returned = read.is_answered.is_answer in
-      vouched_for_job read.is_answered.contents returned.rows read.given h.0 returned.answer h.1 read.is_answered.are_files returned.is_table returned.is_answer (sym returned.status ∙ zero)
-      (subst (λ (text : List ℕ). Appends held text held_now) returned.text written)
+      vouched_for_command read.is_answered.contents returned.rows read.given h.0 returned.answer h.1 read.is_answered.are_files returned.is_table returned.is_answer
+      (sym (ap (λ (l : Line). l.status) returned.line_is) ∙ zero)
+      (subst (λ (text : List ℕ). Appends held text held_now) (ap (λ (l : Line). l.text) returned.line_is) written)

@@ -1,16 +1,14 @@
--- Promises, which public contracts cite: all but those named below; first `Run`, `Vouched`.
+-- Promises, which public contracts cite: all but those named below; first `Vouched`.
 -- Rules, which the promises rest on: `Policies`, `Answer`, `SignatureAnswer`, `ChainAnswer`,
 -- `Headline`, `ChainHeadline`.
--- Inside, which no public contract cites: `Jobs`, `Inquiry`.
+-- Inside, which no public contract cites: `HeldCommand`.
 pub mod Words
 pub mod Policies
-pub mod Jobs
+pub mod HeldCommand
 pub mod Report
 pub mod SignatureAnswer
 pub mod ChainAnswer
 pub mod Answer
-pub mod Inquiry
-pub mod Run
 pub mod Headline
 pub mod ChainHeadline
 pub mod Vouched

@@ -6,6 +6,7 @@ use Rattle.authenticode_core.specs.declared.error.CheckError.{CheckError}
 use Rattle.authenticode_core.specs.declared.error.CheckError.TheVariants as check
 use Rattle.authenticode_core.specs.RefusalName.{refusal_name}
 use Rattle.sig_core.specs.VerdictTable.{newline}
+use Rattle.program_frame.specs.Reports.{Reporting}
 use Rattle.program_frame.specs.Statuses as statuses
 use Rattle.x509_core.specs.ErrorName.{cert_error_name}
 use Rattle.x509_core.specs.declared.error.CertError.{CertError}
@@ -53,3 +54,10 @@ status_of (OfSignature (Ok accepted)) = statuses.accepted
 status_of (OfSignature (Err e)) = statuses.refused
 status_of (OfChain (Ok count)) = statuses.accepted
 status_of (OfChain (Err e)) = statuses.refused
+
+-- how answers are reported
+abbrev pub reporting : Reporting Answer
+reporting = record {
+  IsOutOfMemory = IsOutOfMemory;
+  line_of = λ answer. record { status = status_of answer; text = report_line answer };
+}

@@ -7,20 +7,20 @@ use Rattle.program_frame.specs.DateWord.{IsDateWord}
 use Rattle.program_frame.specs.ListOption.{list_files}
 use Rattle.program_frame.specs.Options.{AreOptions, CheckOptions}
 
--- a command with its arguments
-pub data Job : Type 0 where
+-- a command, with its arguments
+pub data Command : Type 0 where
   -- the form of the file SIG, its digest HASH, and its signature, which TABLE accepts
-  Basic : (signature table hash : List ℕ) → Job
+  Basic : (signature table hash : List ℕ) → Command
   -- the same, and the signer's certificate with those of its issuers, at DATE, except for what the
   -- options leave out; and its CA on a trust list, if they name one
   Check : (signature table hash : List ℕ) → (date : GeneralizedTime) → (options : CheckOptions)
-      → Job
+      → Command
   -- the first of the files CERT with the others as its parents, at DATE, by the signatures that
   -- TABLE accepts
-  Chain : (table : List ℕ) → (date : GeneralizedTime) → (certificates : List (List ℕ)) → Job
+  Chain : (table : List ℕ) → (date : GeneralizedTime) → (certificates : List (List ℕ)) → Command
 
 -- the names of its files, in the order of reading
-abbrev pub files_of : Job → List (List ℕ)
+abbrev pub files_of : Command → List (List ℕ)
 files_of (Basic signature table hash) = signature ∷ table ∷ []
 files_of (Check signature table hash date options) =
     signature ∷ table ∷ list_files options.list
@@ -62,8 +62,8 @@ pub record IsChain (words : List (List ℕ)) (table : List ℕ) (date : Generali
   pub some : 1 ≤ length certificates
   pub most : length certificates ≤ 32
 
--- The table of commands: the words request this job.
-abbrev pub AsksFor : List (List ℕ) → Job → Type 0
+-- The table of commands: the words request this command.
+abbrev pub AsksFor : List (List ℕ) → Command → Type 0
 AsksFor words (Basic signature table hash) = IsBasic words signature table hash
 AsksFor words (Check signature table hash date options) =
     IsCheck words signature table hash date options
@@ -71,4 +71,4 @@ AsksFor words (Chain table date certificates) = IsChain words table date certifi
 
 -- the words are no command
 abbrev pub AsksForNothing : List (List ℕ) → Type 0
-AsksForNothing words = (job : Job) → AsksFor words job → ⊥
+AsksForNothing words = (command : Command) → AsksFor words command → ⊥

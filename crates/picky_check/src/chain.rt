@@ -1,65 +1,33 @@
 //! Validating a certificate with its parents, from their octets.
 
-ghost use Rattle.std.specs.Prelude.{◌≡◌, ◌++◌, ◌∷◌, List, Some, map, IfErr, MatchResult, OnOk};
+ghost use Rattle.std.specs.Prelude.{◌≤◌, Some, length, map, MatchResult};
 ghost use Rattle.x509_core.specs.Chain.{IsAccepted, chain_rules};
-ghost use Rattle.x509_core.specs.KeptCertificate.{KeptCertificate};
 ghost use Rattle.x509_core.specs.Rules.{RefusesCertBy};
-ghost use Rattle.picky_check.specs.ChainAnswer.{AreKeptCertificates, IsAnswerOver, IsChainAnswer, IsFirstUnread, all_checks};
+ghost use Rattle.picky_check.specs.ChainAnswer.{IsChainAnswer, all_checks};
 
 use names_core::UtcDate;
 use sig_core::Scheme;
 use std::alloc::Global;
-use x509_core::{Cert, CertError};
+use x509_core::{Cert, CertError, read_certificates};
 
 /// Validates a certificate at a date with its parents, the nearest first, all given by their
 /// octets; returns the number of parents. All checks of `CertValidator` are on, the root included.
 pub(crate) fn check_chain<S: Scheme>(
     alloc: Global,
-    checked: &[u8],
-    parents: &[Vec<u8>],
+    certificates: &[Vec<u8>],
     date: &UtcDate,
     scheme: &S,
 ) -> Result<usize, CertError>
+    requires { 1 ≤ length certificates.now }
     ensures { IsChainAnswer (S.judge scheme.now) date.now
-        (checked.now ∷ map (λ octets. octets.items) parents.now) result }
+        (map (λ octets. octets.items) certificates.now) result }
 {
-    let checked = Cert::from_der(alloc, checked)?;
-    check_over(alloc, &checked, parents, date, scheme)
-}
-
-/// Validates a certificate that was read; returns the number of its parents.
-fn check_over<S: Scheme>(
-    alloc: Global,
-    checked: &Cert,
-    parents: &[Vec<u8>],
-    date: &UtcDate,
-    scheme: &S,
-) -> Result<usize, CertError>
-    ensures { IsAnswerOver (S.judge scheme.now) date.now checked.now
-        (map (λ octets. octets.items) parents.now) result }
-{
-    let mut read = Vec::new(alloc);
-    read_certificates(alloc, parents, &mut read)?;
-    accept(alloc, checked, &read, date, scheme)?;
-    Ok(read.len())
-}
-
-/// Reads certificates and appends them to those already read.
-fn read_certificates(
-    alloc: Global,
-    octets: &[Vec<u8>],
-    certificates: &mut Vec<Cert>,
-) -> Result<(), CertError>
-    ensures read { OnOk result ((read : List KeptCertificate)
-        × (certificates.new.items ≡ certificates.old.items ++ read)
-        × AreKeptCertificates (map (λ octets. octets.items) octets.now) read) }
-    ensures unread { IfErr result (IsFirstUnread (map (λ octets. octets.items) octets.now)) }
-{
-    let [first, others @ ..] = octets else {
-        return Ok(());
+    let read = read_certificates(alloc, certificates)?;
+    let [checked, parents @ ..] = read.as_slice() else {
+        unreachable!();
     };
-    certificates.push(Cert::from_der(alloc, first)?)?;
-    read_certificates(alloc, others, certificates)
+    accept(alloc, checked, parents, date, scheme)?;
+    Ok(parents.len())
 }
 
 /// Validates a certificate with its parents, the nearest first.

@@ -1,14 +1,14 @@
 //! The command line program over files and an output from the caller: words, files, report.
 #![tactic(auto)]
 
+mod answering;
 mod chain;
-mod inquiry;
 mod policies;
 mod program;
 mod report;
 mod words;
 
-pub use program::{run, run_with};
+pub use program::{Commands, run};
 pub use program_frame::{
     ACCEPTED, BAD_TABLE, DirShelf, Failed, FileError, KnownTable, MemShelf, MemSink, OUT_OF_MEMORY,
     Opener, OutSink, Paths, REFUSED, ReaderShelf, SHELF_FAILED, SINK_FAILED, Shelf, Sink, TOO_LONG,

@@ -1,17 +1,15 @@
 //! A run of the program: words, files, report, and exit status.
 
-ghost use Rattle.std.specs.Prelude.{◌≡◌, length, map, string_bytes};
-ghost use Rattle.der_core.specs.Counts.{FailsOnce};
-ghost use Rattle.program_frame.specs.ReadFiles.{HandsOutAtMost};
-ghost use Rattle.picky_check.specs.Run.{IsRun};
+ghost use Rattle.std.specs.Prelude.{◌≡◌, map, string_bytes};
+ghost use Rattle.program_frame.specs.Run.{IsRun};
 ghost use Rattle.program_frame.specs.Statuses as statuses;
+ghost use Rattle.picky_check.specs.Answer.{commands};
 ghost use Rattle.picky_check.specs.Vouched.{IsVouched};
-ghost use Rattle.picky_check.specs.Words.{AsksFor, AsksForNothing, Job, files_of};
+ghost use Rattle.picky_check.specs.Words.{Command};
 
-use crate::inquiry::Inquiry;
-use crate::words::job_of;
+use crate::words::command_of;
 use authenticode_core::one_signed_data;
-use program_frame::{KnownTable, OUT_OF_MEMORY, Shelf, Sink, USAGE, answer, finish};
+use program_frame::{KnownTable, Program, Shelf, Sink, run_by_table};
 use std::alloc::Global;
 
 /// Runs the command that the words request, with files of the shelf; writes one line to the sink if
@@ -21,56 +19,36 @@ pub fn run<F: Shelf, O: Sink>(alloc: Global, words: &[String], shelf: &mut F, ou
     ensures vouched_for { result ≡ statuses.accepted
         → IsVouched (map string_bytes words.now) (F.state shelf.old) (F.state shelf.new)
         (O.state out.old).held (O.state out.new).held }
-    // Nothing is read if the words are no command.
-    ensures unread { AsksForNothing (map string_bytes words.now) → shelf.new ≡ shelf.old }
-    // Whatever the status, no more is read than one octet more than the longest file for each file
-    // of the command.
-    ensures at_most { (job : Job) → AsksFor (map string_bytes words.now) job
-        → HandsOutAtMost (length (files_of job)) (F.state shelf.old) (F.state shelf.new) }
-    // A failed call of the shelf or of the sink is the last one, and the status reports it.
-    ensures shelf_once { FailsOnce (result ≡ statuses.shelf_failed) (F.state shelf.old).faults
-        (F.state shelf.new).faults }
-    ensures sink_once { FailsOnce (result ≡ statuses.sink_failed) (O.state out.old).faults
-        (O.state out.new).faults }
     // What each status means, and when it is returned.
-    ensures ends { IsRun (map string_bytes words.now) (F.state shelf.old) (F.state shelf.new)
+    ensures ends { IsRun commands (map string_bytes words.now) F.state shelf.old shelf.new
         (O.state out.old) (O.state out.new) result }
 {
-    run_with(alloc, words, None, shelf, out)
+    Commands { known: None }.run(alloc, words, shelf, out)
 }
 
-/// The same, where a verdict table may be known already: a file with its text isn't parsed again.
-pub fn run_with<F: Shelf, O: Sink>(
-    alloc: Global,
-    words: &[String],
-    known: Option<&KnownTable>,
-    shelf: &mut F,
-    out: &mut O,
-) -> u8
-    // Acceptance means vouched for.
-    ensures vouched_for { result ≡ statuses.accepted
-        → IsVouched (map string_bytes words.now) (F.state shelf.old) (F.state shelf.new)
-        (O.state out.old).held (O.state out.new).held }
-    // Nothing is read if the words are no command.
-    ensures unread { AsksForNothing (map string_bytes words.now) → shelf.new ≡ shelf.old }
-    // Whatever the status, no more is read than one octet more than the longest file for each file
-    // of the command.
-    ensures at_most { (job : Job) → AsksFor (map string_bytes words.now) job
-        → HandsOutAtMost (length (files_of job)) (F.state shelf.old) (F.state shelf.new) }
-    // A failed call of the shelf or of the sink is the last one, and the status reports it.
-    ensures shelf_once { FailsOnce (result ≡ statuses.shelf_failed) (F.state shelf.old).faults
-        (F.state shelf.new).faults }
-    ensures sink_once { FailsOnce (result ≡ statuses.sink_failed) (O.state out.old).faults
-        (O.state out.new).faults }
-    // What each status means, and when it is returned.
-    ensures ends { IsRun (map string_bytes words.now) (F.state shelf.old) (F.state shelf.new)
-        (O.state out.old) (O.state out.new) result }
-{
-    // a law that the proof rests on; the call does nothing
-    one_signed_data();
-    match job_of(alloc, words) {
-        Ok(Some(job)) => finish(out, answer(alloc, shelf, &Inquiry { job, known })),
-        Ok(None) => USAGE,
-        Err(_) => OUT_OF_MEMORY,
+/// The program. A verdict table may be known before the files are read: a file with its text isn't
+/// parsed again.
+#[derive(Clone, Copy)]
+pub struct Commands<'a> {
+    pub known: Option<&'a KnownTable>,
+}
+
+impl Program for Commands<'_> {
+    ghost Asked = { Command };
+
+    ghost program = { commands };
+
+    ghost Acceptance = { IsVouched };
+
+    fn run<F: Shelf, O: Sink>(
+        &self,
+        alloc: Global,
+        words: &[String],
+        shelf: &mut F,
+        out: &mut O,
+    ) -> u8 {
+        // a law that the proof rests on; the call does nothing
+        one_signed_data();
+        run_by_table(alloc, &command_of(alloc, words), self.known, shelf, out)
     }
 }

@@ -1,8 +1,8 @@
 //! The line that a run reports, and its status.
 
 ghost use Rattle.std.specs.Prelude.{◌≡◌, IfOk, string_bytes};
-ghost use Rattle.picky_check.specs.Inquiry.{IsReported};
-ghost use Rattle.picky_check.specs.Report.{OfChain, OfSignature, accepted_line, parents_line, refused_chain_line, refused_line};
+ghost use Rattle.program_frame.specs.Reports.{IsReported};
+ghost use Rattle.picky_check.specs.Report.{OfChain, OfSignature, accepted_line, parents_line, refused_chain_line, refused_line, reporting};
 
 use authenticode_core::{Accepted, CheckError};
 use program_frame::{ACCEPTED, REFUSED, Report, Stop};
@@ -14,7 +14,7 @@ pub(crate) fn report_of(
     alloc: Global,
     answer: &Result<Accepted, CheckError>,
 ) -> Result<Report, Stop>
-    ensures { IsReported (OfSignature answer.now) result }
+    ensures { IsReported reporting (OfSignature answer.now) result }
 {
     match answer {
         Ok(accepted) => Ok(Report {
@@ -34,7 +34,7 @@ pub(crate) fn chain_report_of(
     alloc: Global,
     answer: &Result<usize, CertError>,
 ) -> Result<Report, Stop>
-    ensures { IsReported (OfChain answer.now) result }
+    ensures { IsReported reporting (OfChain answer.now) result }
 {
     match answer {
         Ok(count) => Ok(Report {

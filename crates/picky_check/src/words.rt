@@ -1,8 +1,8 @@
 //! The commands of the command line.
 
-ghost use Rattle.std.specs.Prelude.{◌≡◌, Some, None, map, IfOk, IfSome, IsErr, IsSome, MatchOption, option_map, string_bytes, ◌∷◌, codes, Ok};
-ghost use Rattle.picky_check.specs.Jobs.{job_held};
-ghost use Rattle.picky_check.specs.Words.{AsksFor, AsksForNothing, Job as AskedJob, asked_hash};
+ghost use Rattle.std.specs.Prelude.{◌≡◌, ◌≤◌, Some, None, length, map, IfOk, IfSome, IsErr, IsSome, MatchOption, option_map, string_bytes, ◌∷◌, codes, Ok};
+ghost use Rattle.picky_check.specs.HeldCommand.{command_held};
+ghost use Rattle.picky_check.specs.Words.{AsksFor, AsksForNothing, Command as AskedCommand, asked_hash};
 
 use names_core::UtcDate;
 use program_frame::{CheckOptions, date_of, options_of};
@@ -11,12 +11,12 @@ use std::alloc::{AllocError, Global};
 /// The maximal length of a hash, in octets.
 const LONGEST_HASH: usize = 64;
 
-/// The maximal number of parents of a certificate.
-const MOST_PARENTS: usize = 31;
+/// The maximal number of certificates of a chain.
+const MOST_CERTIFICATES: usize = 32;
 
 /// A command with its arguments.
 #[derive(Debug, Drop)]
-pub(crate) enum Job<'a> {
+pub(crate) enum Command<'a> {
     /// Checks the form of one signature file, its digest and its signature.
     Basic {
         signature: &'a str,
@@ -36,20 +36,26 @@ pub(crate) enum Job<'a> {
     Chain {
         table: &'a str,
         date: UtcDate,
-        checked: &'a str,
-        parents: &'a [String],
+        certificates: ChainFiles<'a>,
     },
 }
 
+/// The files of a certificate and its parents, at least one.
+#[derive(Clone, Copy, Debug)]
+pub(crate) struct ChainFiles<'a> {
+    pub(crate) names: &'a [String],
+    ghost some: { 1 ≤ length names.now },
+}
+
 /// Parses the words, by the table of commands. Nothing is allocated if they are no command.
-pub(crate) fn job_of(alloc: Global, words: &[String]) -> Result<Option<Job<'_>>, AllocError>
+pub(crate) fn command_of(alloc: Global, words: &[String]) -> Result<Option<Command<'_>>, AllocError>
     ensures asked { IfOk result (λ asked. MatchOption asked
         (AsksForNothing (map string_bytes words.now))
-        (λ held. AsksFor (map string_bytes words.now) (job_held held))) }
-    ensures only { (asked : AskedJob) → AsksFor (map string_bytes words.now) asked
-        → IfOk result (λ held. option_map job_held held ≡ Some asked) }
+        (λ held. AsksFor (map string_bytes words.now) (command_held held))) }
+    ensures only { (asked : AskedCommand) → AsksFor (map string_bytes words.now) asked
+        → IfOk result (λ held. option_map command_held held ≡ Some asked) }
     ensures memory { IsErr result
-        → (asked : AskedJob) × AsksFor (map string_bytes words.now) asked }
+        → (asked : AskedCommand) × AsksFor (map string_bytes words.now) asked }
 {
     let [command, words @ ..] = words else {
         return Ok(None);
@@ -63,13 +69,13 @@ pub(crate) fn job_of(alloc: Global, words: &[String]) -> Result<Option<Job<'_>>,
 }
 
 /// Parses the words after `basic`.
-fn basic_of(alloc: Global, words: &[String]) -> Result<Option<Job<'_>>, AllocError>
+fn basic_of(alloc: Global, words: &[String]) -> Result<Option<Command<'_>>, AllocError>
     ensures asked { IfOk result (λ asked. MatchOption asked
         (AsksForNothing (codes "basic" ∷ map string_bytes words.now))
-        (λ held. AsksFor (codes "basic" ∷ map string_bytes words.now) (job_held held))) }
-    ensures only { (asked : AskedJob) → AsksFor (codes "basic" ∷ map string_bytes words.now) asked
-        → IfOk result (λ held. option_map job_held held ≡ Some asked) }
-    ensures memory { IsErr result → (asked : AskedJob)
+        (λ held. AsksFor (codes "basic" ∷ map string_bytes words.now) (command_held held))) }
+    ensures only { (asked : AskedCommand) → AsksFor (codes "basic" ∷ map string_bytes words.now) asked
+        → IfOk result (λ held. option_map command_held held ≡ Some asked) }
+    ensures memory { IsErr result → (asked : AskedCommand)
         × AsksFor (codes "basic" ∷ map string_bytes words.now) asked }
 {
     let [signature, table, hash] = words else {
@@ -78,7 +84,7 @@ fn basic_of(alloc: Global, words: &[String]) -> Result<Option<Job<'_>>, AllocErr
     let Some(hash) = asked_hash(alloc, hash.as_str())? else {
         return Ok(None);
     };
-    Ok(Some(Job::Basic {
+    Ok(Some(Command::Basic {
         signature: signature.as_str(),
         table: table.as_str(),
         hash,
@@ -86,13 +92,13 @@ fn basic_of(alloc: Global, words: &[String]) -> Result<Option<Job<'_>>, AllocErr
 }
 
 /// Parses the words after `check`.
-fn check_of(alloc: Global, words: &[String]) -> Result<Option<Job<'_>>, AllocError>
+fn check_of(alloc: Global, words: &[String]) -> Result<Option<Command<'_>>, AllocError>
     ensures asked { IfOk result (λ asked. MatchOption asked
         (AsksForNothing (codes "check" ∷ map string_bytes words.now))
-        (λ held. AsksFor (codes "check" ∷ map string_bytes words.now) (job_held held))) }
-    ensures only { (asked : AskedJob) → AsksFor (codes "check" ∷ map string_bytes words.now) asked
-        → IfOk result (λ held. option_map job_held held ≡ Some asked) }
-    ensures memory { IsErr result → (asked : AskedJob)
+        (λ held. AsksFor (codes "check" ∷ map string_bytes words.now) (command_held held))) }
+    ensures only { (asked : AskedCommand) → AsksFor (codes "check" ∷ map string_bytes words.now) asked
+        → IfOk result (λ held. option_map command_held held ≡ Some asked) }
+    ensures memory { IsErr result → (asked : AskedCommand)
         × AsksFor (codes "check" ∷ map string_bytes words.now) asked }
 {
     let [signature, table, hash, date, options @ ..] = words else {
@@ -107,7 +113,7 @@ fn check_of(alloc: Global, words: &[String]) -> Result<Option<Job<'_>>, AllocErr
     let Some(hash) = asked_hash(alloc, hash.as_str())? else {
         return Ok(None);
     };
-    Ok(Some(Job::Check {
+    Ok(Some(Command::Check {
         signature: signature.as_str(),
         table: table.as_str(),
         hash,
@@ -117,25 +123,24 @@ fn check_of(alloc: Global, words: &[String]) -> Result<Option<Job<'_>>, AllocErr
 }
 
 /// Parses the words after `chain`.
-fn chain_of(words: &[String]) -> Option<Job<'_>>
+fn chain_of(words: &[String]) -> Option<Command<'_>>
     ensures asked { MatchOption result
         (AsksForNothing (codes "chain" ∷ map string_bytes words.now))
-        (λ held. AsksFor (codes "chain" ∷ map string_bytes words.now) (job_held held)) }
-    ensures only { (asked : AskedJob) → AsksFor (codes "chain" ∷ map string_bytes words.now) asked
-        → option_map job_held result ≡ Some asked }
+        (λ held. AsksFor (codes "chain" ∷ map string_bytes words.now) (command_held held)) }
+    ensures only { (asked : AskedCommand) → AsksFor (codes "chain" ∷ map string_bytes words.now) asked
+        → option_map command_held result ≡ Some asked }
 {
-    let [table, date, checked, parents @ ..] = words else {
+    let [table, date, names @ ..] = words else {
         return None;
     };
-    if parents.len() > MOST_PARENTS {
+    if names.is_empty() || names.len() > MOST_CERTIFICATES {
         return None;
     }
     let date = date_of(date.as_str())?;
-    Some(Job::Chain {
+    Some(Command::Chain {
         table: table.as_str(),
         date,
-        checked: checked.as_str(),
-        parents,
+        certificates: ChainFiles { names },
     })
 }
 

@@ -10,3 +10,4 @@ pub mod OptionWords
 pub mod Answerings
 pub mod Runs
 pub mod Reporting
+pub mod Parsing

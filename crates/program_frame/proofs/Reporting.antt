@@ -82,7 +82,8 @@ module _ {Command Answer : Type 0} (program : TableProgram Command Answer) (comm
     under_rows others answer are =
         subst (λ (rs : List VerdictRow). program.IsAnswerTo (verdict_of rs) command contents answer) (table_once _ others rows are is_table)
 
-    table_line : (report : Report) → (answer : Answer) × program.IsAnswerTo (verdict_of rows) command contents answer × IsReportOf program.reporting answer report
+    table_line : (report : Report)
+        → (answer : Answer) × program.IsAnswerTo (verdict_of rows) command contents answer × IsReportOf program.reporting answer report
         → IsTableLine program command contents (line_held report)
     table_line report h = record {
       answer = h.0;

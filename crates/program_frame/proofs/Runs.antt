@@ -254,14 +254,14 @@ module _ {Held Command E : Type 0} (program : Program Command) (words : List (Li
   only_one : (a b : Command) → Some a ≡ Some b → a ≡ b
   only_one a b is = cc
 
-  pub found_held : (held : Held) → parsed ≡ Ok (Some held) → IsParsed program words (parsed_held asked parsed)
+  pub found_held : (found : Option Held) (held : Held) → parsed ≡ Ok found → found ≡ Some held → IsParsed program words (parsed_held asked parsed)
       → program.AsksFor words (asked held) × ((other : Command) → program.AsksFor words other → asked held ≡ other)
-  found_held held is h =
-      let h = subst (λ (p : Result (Option Held) E). IsParsed program words (parsed_held asked p)) is h in
+  found_held found held is found_is h =
+      let h = subst (λ (p : Result (Option Held) E). IsParsed program words (parsed_held asked p)) (is ∙ ap Ok found_is) h in
       (h.asked, λ other some. only_one (asked held) other (h.only other some))
 
-  pub none_held : parsed ≡ Ok None → IsParsed program words (parsed_held asked parsed) → AsksForNothing program words
-  none_held is h = (subst (λ (p : Result (Option Held) E). IsParsed program words (parsed_held asked p)) is h).asked
+  pub none_held : (found : Option Held) → parsed ≡ Ok found → found ≡ None → IsParsed program words (parsed_held asked parsed) → AsksForNothing program words
+  none_held found is found_is h = (subst (λ (p : Result (Option Held) E). IsParsed program words (parsed_held asked p)) (is ∙ ap Ok found_is) h).asked
 
   pub failed_held : (e : E) → parsed ≡ Err e → IsParsed program words (parsed_held asked parsed) → (command : Command) × program.AsksFor words command
   failed_held e is h = (subst (λ (p : Result (Option Held) E). IsParsed program words (parsed_held asked p)) is h).memory refl

@@ -46,8 +46,10 @@ pub fn run<C: Command, F: Shelf, O: Sink>(
         result }
 {
     match parsed {
-        Ok(Some(command)) => finish(out, answer(alloc, shelf, command)),
-        Ok(None) => USAGE,
+        Ok(found) => match found {
+            Some(command) => finish(out, answer(alloc, shelf, command)),
+            None => USAGE,
+        },
         Err(_) => OUT_OF_MEMORY,
     }
 }

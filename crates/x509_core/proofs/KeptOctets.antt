@@ -1,10 +1,11 @@
 -- Octets are those of one certificate, which is read from them, unless memory runs out.
-use Rattle.std.proofs.Common.{◌≡◌, ℕ, List, [], ◌∷◌, ◌++◌, map, refl, sym, ap, subst, ◌∙◌}
+use Rattle.std.proofs.Common.{◌≡◌, ℕ, List, [], ◌∷◌, ◌++◌, map, refl, sym, ap, ◌∙◌}
 use Rattle.std.proofs.Math.Logic.{∥∥₁_elim}
 use Rattle.der_core.specs.Refusals.{RefusesOctets}
 use Rattle.der_core.specs.declared.error.DerError.{DerError}
 use Rattle.der_core.specs.declared.error.DerError.TheVariants as der
-use Rattle.der_core.proofs.Exact.{no_fault_where_whole, whole_once}
+use Rattle.der_core.proofs.Exact.{whole_once}
+use Rattle.der_core.proofs.Rereading.{only_memory}
 use Rattle.key_core.specs.declared.element.Element.TheVariants as elements
 use Rattle.x509_types.specs.Certificate.{IsCertificate}
 use Rattle.x509_types.specs.CertificateElements.{certificate_of}
@@ -27,14 +28,8 @@ spells_none kept none = ∥∥₁_elim kept.spelled (λ x y. absurd x) (λ are. 
 -- octets of a certificate are refused only when out of memory
 pub refused_for_memory : (kept : KeptCertificate) (octets : List ℕ) (source : DerError) → kept_octets kept ≡ octets → RefusesOctets IsCertificate octets source
     → source ≡ der.Memory
-refused_for_memory kept octets (der.Malformed m) is refused =
-    absurd (no_fault_where_whole octets (certificate_of kept.elements) m.at m.fault kept.der (sym is) refused)
-refused_for_memory kept octets der.Shape is refused =
-    let same = whole_once octets refused.element (certificate_of kept.elements) refused.der kept.der refused.encoded (sym is) in
-    absurd (spells_none kept (λ c spelled. refused.none c (subst (λ e. IsCertificate e c) (sym same) spelled)))
-refused_for_memory kept octets der.TooDeep is refused = absurd refused
-refused_for_memory kept octets der.TooLong is refused = absurd refused
-refused_for_memory kept octets der.Memory is refused = refl
+refused_for_memory kept octets source is refused =
+    only_memory IsCertificate octets (certificate_of kept.elements) source kept.der (sym is) (spells_none kept) refused
 
 -- ---- several
 

@@ -19,8 +19,7 @@ pub use certificate::validity::Validity;
 pub use certificate::version::Version;
 pub use certificate::view::CertView;
 pub use extension::fields::ExtensionFields;
-pub use extension::kind::ExtensionKind;
-pub use extension::view::ExtensionView;
+pub use extension::view::{ExtensionKind, ExtensionView};
 pub use extension::{Extension, Extensions};
 pub use extension_types::{
     AuthorityKeyIdentifier, BasicConstraints, ExtendedKeyUsage, KeyUsage, OidList,

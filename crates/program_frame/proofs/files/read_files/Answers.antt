@@ -2,7 +2,7 @@ use Rattle.std.proofs.Common.{◌++◌, Err, List, ℕ, ap, length, map, string_
 use Rattle.std.proofs.lemmas.Result.{err_from_is_err_and}
 use Rattle.program_frame.specs.Held.{last_held, names_held}
 use Rattle.program_frame.specs.ReadFiles.{AreUnread}
-use Rattle.program_frame.proofs.Failing.{failed_as, failed_then, none_failed, one_error, stands}
+use Rattle.program_frame.proofs.Failing.{failed_as, failed_then, one_error, stands}
 use Rattle.program_frame.proofs.SeveralFiles.{unread_first, unread_behind}
 use Rattle.program_frame.proofs.files.read_files.Goals as goal
 
@@ -20,10 +20,12 @@ returns-in_err-first-clause-read g c =
 pub returns-in_err-append_files-clause-read : goal.returns-in_err-append_files-clause-read
 returns-in_err-append_files-clause-read g c =
     let p = err_from_is_err_and c.from_residual-in_err-append_files.result c.from_residual-in_err-append_files.ensures.1 in
-    rw (p.1, p.2) (subst (λ (names : List (List ℕ)). AreUnread (g.F.Shelf.state c.args.shelf.now) (g.F.Shelf.state c.append_files.new.shelf) names c.in_err-append_files.field-0.0) (sym c.in-Some.ensures)
+    rw (p.1, p.2) (subst (λ (names : List (List ℕ)).
+    AreUnread (g.F.Shelf.state c.args.shelf.now) (g.F.Shelf.state c.append_files.new.shelf) names c.in_err-append_files.field-0.0) (sym c.in-Some.ensures)
     (unread_behind (g.F.Shelf.state c.args.shelf.now) (g.F.Shelf.state c.read_file.new.shelf) (g.F.Shelf.state c.append_files.new.shelf)
     c.args.names.first.now (names_held c.in-Some.behind) c.in_err-append_files.field-0.0 c.in_ok-first.first.items
-    c.in_ok-first.ensures.whole c.in_ok-first.ensures.same c.in_ok-first.ensures.quiet c.in_ok-first.ensures.counted c.in_ok-first.ensures.given c.in_ok-first.ensures.counted_given
+    c.in_ok-first.ensures.whole c.in_ok-first.ensures.same c.in_ok-first.ensures.quiet c.in_ok-first.ensures.counted c.in_ok-first.ensures.given
+    c.in_ok-first.ensures.counted_given
     c.in_err-append_files.ensures.unread))
 
 pub returns-in_err-first-clause-once : goal.returns-in_err-first-clause-once

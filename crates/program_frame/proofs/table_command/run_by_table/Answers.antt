@@ -1,6 +1,3 @@
-use Rattle.std.proofs.Common.{Option, Result, sym, subst}
-use Rattle.program_frame.specs.Commands.{IsParsed}
-use Rattle.program_frame.specs.Tables.{by_table}
 use Rattle.program_frame.proofs.table_command.run_by_table.Goals as goal
 
 pub returns : goal.returns
