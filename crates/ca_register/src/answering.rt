@@ -6,6 +6,9 @@ ghost use Rattle.asn1_types.specs.declared.generalized_time.GeneralizedTime.{Gen
 ghost use Rattle.program_frame.specs.Reports.{Reports};
 ghost use Rattle.program_frame.specs.Statuses as statuses;
 ghost use Rattle.program_frame.specs.declared.stop.Stop.TheVariants as stops;
+ghost use Rattle.ca_register.specs.Commands.{program};
+ghost use Rattle.ca_register.specs.HeldCommand.{command_held};
+ghost use Rattle.ca_register.specs.Words.{Command as AskedCommand};
 ghost use Rattle.ca_register.specs.Held.{line_held};
 ghost use Rattle.ca_register.specs.Lines.{IsLine, Line};
 ghost use Rattle.ca_register.specs.Answer.{IsAnswerTo, reporting};
@@ -25,13 +28,9 @@ use program_frame::{Contents, Names, Report, Stop};
 use std::alloc::Global;
 
 impl program_frame::Command for Command<'_> {
-    ghost use Rattle.ca_register.specs.Commands.{program as the_program};
-    ghost use Rattle.ca_register.specs.HeldCommands.{command_held};
-    ghost use Rattle.ca_register.specs.Words.{Command as AskedCommand};
-
     ghost Asked = { AskedCommand };
 
-    ghost program = { the_program };
+    ghost program = { program };
 
     ghost asked = { command_held };
 

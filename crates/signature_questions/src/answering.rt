@@ -6,7 +6,9 @@ ghost use Rattle.program_frame.specs.Held.{contents_held};
 ghost use Rattle.program_frame.specs.Reports.{Reports, as_lines};
 ghost use Rattle.program_frame.specs.Statuses as statuses;
 ghost use Rattle.program_frame.specs.declared.stop.Stop.TheVariants as stops;
-ghost use Rattle.signature_questions.specs.Commands.{IsChainLine, IsSignatureLine};
+ghost use Rattle.signature_questions.specs.HeldCommand.{command_held};
+ghost use Rattle.signature_questions.specs.Words.{Command as AskedCommand};
+ghost use Rattle.signature_questions.specs.Commands.{IsChainLine, IsSignatureLine, program};
 ghost use Rattle.signature_questions.specs.Lines.{refused_chain_line, refused_line};
 
 use crate::chain_questions::ChainQuestions;
@@ -21,13 +23,9 @@ use std::alloc::{AllocError, Global};
 use x509_core::CertError;
 
 impl program_frame::Command for Command<'_> {
-    ghost use Rattle.signature_questions.specs.Commands.{program as the_program};
-    ghost use Rattle.signature_questions.specs.HeldCommands.{command_held};
-    ghost use Rattle.signature_questions.specs.Words.{Command as AskedCommand};
-
     ghost Asked = { AskedCommand };
 
-    ghost program = { the_program };
+    ghost program = { program };
 
     ghost asked = { command_held };
 

@@ -1,8 +1,9 @@
 //! A run of the program.
 
-ghost use Rattle.std.specs.Prelude.{map, string_bytes};
+ghost use Rattle.std.specs.Prelude.{⊤, map, string_bytes};
 ghost use Rattle.program_frame.specs.Run.{IsRun};
 ghost use Rattle.signature_questions.specs.Commands.{program};
+ghost use Rattle.signature_questions.specs.Words.{Command};
 
 use crate::words::command_of;
 use program_frame::{Program, Shelf, Sink};
@@ -25,13 +26,9 @@ pub fn run<F: Shelf, O: Sink>(alloc: Global, words: &[String], shelf: &mut F, ou
 pub struct Commands;
 
 impl Program for Commands {
-    ghost use Rattle.std.specs.Prelude.{⊤};
-    ghost use Rattle.signature_questions.specs.Commands.{program as the_program};
-    ghost use Rattle.signature_questions.specs.Words.{Command as AskedCommand};
+    ghost Asked = { Command };
 
-    ghost Asked = { AskedCommand };
-
-    ghost program = { the_program };
+    ghost program = { program };
 
     // nothing but what each status means
     ghost Acceptance = { λ words shelf shelf_now held held_now. ⊤ };

@@ -1,9 +1,9 @@
 use Rattle.std.proofs.Common.{map}
 use Rattle.std.specs.Prelude.{string_bytes}
-use Rattle.program_frame.proofs.Runs.{parsed_found}
+use Rattle.program_frame.proofs.Parsing.{IsParsed-option}
 use Rattle.signature_questions.specs.Commands.{program}
-use Rattle.signature_questions.specs.HeldCommands.{command_held}
+use Rattle.signature_questions.specs.HeldCommand.{command_held}
 use Rattle.signature_questions.proofs.program.run.Goals as goal
 
 pub returns : goal.returns
-returns g c = c.run.ensures (map string_bytes c.args.words.now) (parsed_found program _ command_held c.command_of.result c.command_of.ensures.asked c.command_of.ensures.only)
+returns g c = c.run.ensures (map string_bytes c.args.words.now) (IsParsed-option program _ command_held c.command_of.result c.command_of.ensures.asked c.command_of.ensures.only)
