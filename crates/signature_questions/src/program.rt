@@ -22,7 +22,7 @@ pub fn run<F: Shelf, O: Sink>(alloc: Global, words: &[String], shelf: &mut F, ou
 }
 
 /// The program `picky_ask`.
-#[derive(Clone, Copy, Debug, Drop)]
+#[derive(Clone, Copy, Debug)]
 pub struct Commands;
 
 impl Program for Commands {
