@@ -48,11 +48,11 @@ unread_reports octets e (Ok report) unread is memory =
 -- ---- the report on the files of a command
 
 signature_low : (octets : List ℕ) (line : Line) → IsSignatureLine octets line → line.status ≤ 1
-signature_low octets line (inl asked) = omega (arith, asked.2.1.status)
+signature_low octets line (inl (f, has, asked)) = omega (arith, asked.status)
 signature_low octets line (inr refused) = omega (arith, refused.status)
 
 chain_low : (octets : List (List ℕ)) (line : Line) → IsChainLine octets line → line.status ≤ 1
-chain_low octets line (inl asked) = omega (arith, asked.2.2.1.status)
+chain_low octets line (inl (checked, parents, are, asked)) = omega (arith, asked.status)
 chain_low octets line (inr refused) = omega (arith, refused.status)
 
 reported_low : (Is : Line → Type 0) → ((line : Line) → Is line → line.status ≤ 1) → (result : Result Report Stop) → Reports as_lines Is result

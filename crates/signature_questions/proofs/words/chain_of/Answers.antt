@@ -1,4 +1,5 @@
-use Rattle.std.proofs.Common.{ap, string_bytes, sym, arith}
+use Rattle.std.proofs.Common.{ap, sym, arith}
+use Rattle.std.specs.Prelude.{string_bytes}
 use Rattle.std.proofs.lemmas.List.{length-map}
 use Rattle.program_frame.proofs.WordLists.{words_are}
 use Rattle.signature_questions.specs.Words.{OfChain}

@@ -24,11 +24,11 @@ returns-then-not-is_empty-clause-asked c =
 pub returns-clause-asked : goal.returns-clause-asked
 returns-clause-asked c =
     let are = words_are string_bytes c.args.words.now c.first-item.result c.as_str.result.now c.in-len1-up.len_at_least c.first-item.is (sym c.as_str.ensures.value) in
-    subst (λ (file : List ℕ). AsksFor (map string_bytes c.args.words.now) (OfSignature file)) c.as_str.ensures.value
+    subst (λ (file : List ℕ). AsksFor (map string_bytes c.args.words.now) (OfSignature file)) (c.as_str.ensures.value ∙ sym c.as_str-2.ensures.value)
     (file_asked _ c.as_str.result.now (map string_bytes (behind c.args.words.now)) are (option_other c.as_str.result.now _ c.eq.ensures c.if-eq.false) (length-map (behind c.args.words.now) string_bytes ∙ eqb-true _ _ (sym c.is_empty.ensures ∙ c.if-not-is_empty.false)))
 
 pub returns-clause-only : goal.returns-clause-only
 returns-clause-only c =
     let are = words_are string_bytes c.args.words.now c.first-item.result c.as_str.result.now c.in-len1-up.len_at_least c.first-item.is (sym c.as_str.ensures.value) in
-    subst (λ (file : List ℕ). (command : Command) → AsksFor (map string_bytes c.args.words.now) command → Some (OfSignature file) ≡ Some command) c.as_str.ensures.value
+    subst (λ (file : List ℕ). (command : Command) → AsksFor (map string_bytes c.args.words.now) command → Some (OfSignature file) ≡ Some command) (c.as_str.ensures.value ∙ sym c.as_str-2.ensures.value)
     (only_file _ c.as_str.result.now (map string_bytes (behind c.args.words.now)) are (option_other c.as_str.result.now _ c.eq.ensures c.if-eq.false))
