@@ -12,6 +12,8 @@ takes memory is met by a body that always answers that there is none, so one
 caller at least has to see another answer.  Exit status 1 says that a call is
 listed, and 2 that there is no library.
 
+A function that is exported to C is one that calls, and needs no caller here.
+
 A call is found by its name, since types aren't known here: a function by
 `name(`, one of a type T by `T::name`, a method by `.name(`.  Where another
 type or the standard library has a method of that name, the file has to name
@@ -40,7 +42,7 @@ BLOCK = re.compile(
     r"|impl\b(?:<[^{]*?>)? (?P<of>[^{]* for )?(?P<type>[\w:]+)"
 )
 FUNCTION = re.compile(
-    r" *(?P<public>pub )?(?:pub\([a-z]+\) )?(?:const |unsafe )*fn (?P<name>\w+)"
+    r" *(?P<public>pub )?(?:pub\([a-z]+\) )?(?:const |unsafe )*(?P<exported>extern \S+ )?fn (?P<name>\w+)"
 )
 
 
@@ -84,7 +86,7 @@ def functions(crate, file):
         if function:
             of_trait = block is not None and (block["trait"] or block["of"])
             of_type = block["type"] if block and block["type"] else ""
-            is_public = of_library and function["public"] is not None and not of_trait
+            is_public = of_library and function["public"] is not None and not of_trait and not function["exported"]
             found.append([(of_type, function["name"], is_public), line[function.end() :]])
         elif found:
             found[-1][1] += line

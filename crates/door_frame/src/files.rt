@@ -1,13 +1,28 @@
 //! Files whose octets someone else keeps.
 
-ghost use Rattle.std.specs.Prelude.{◌≡◌, Some, None, MatchOption};
-ghost use Rattle.door_frame.specs.Files.{lent_files};
+ghost use Rattle.std.specs.Prelude.{◌≡◌, ℕ, List, Some, None, IfOk, MatchOption};
+ghost use Rattle.door_frame.specs.Files.{AreLent, lent_files};
+ghost use Rattle.program_frame.specs.Shelf.{Files};
+
+use std::alloc::AllocError;
 
 /// A file by its name, whose octets are borrowed.
 #[derive(Clone, Copy)]
 pub struct LentFile<'a> {
     pub name: &'a str,
     pub octets: &'a [u8],
+}
+
+/// Borrowed files, if there was memory for them.
+pub fn borrowed<'a>(files: &'a Result<Vec<LentFile<'a>>, AllocError>) -> Option<&'a [LentFile<'a>]>
+    ensures { (given : Files)
+        → IfOk files.now (λ files. (name : List ℕ) → lent_files files.items name ≡ given name)
+        → AreLent result given }
+{
+    match files {
+        Ok(files) => Some(files.as_slice()),
+        Err(_) => None,
+    }
 }
 
 /// The octets of the first file with this name.

@@ -3,7 +3,7 @@
 //! table that the caller keeps between calls.
 #![tactic(auto)]
 
-mod call;
+mod calling;
 mod files;
 mod handing;
 mod lent;
@@ -11,10 +11,10 @@ mod pool;
 mod table_handle;
 mod words;
 
-pub use call::call;
-pub use files::LentFile;
+pub use calling::call;
+pub use files::{LentFile, borrowed};
 pub use handing::{HandedOut, hand_out};
 pub use lent::LentShelf;
-pub use pool::append_pool;
+pub use pool::{append_pool, pooled};
 pub use table_handle::TableHandle;
 pub use words::words_of;

@@ -31,11 +31,13 @@ module _ (file table date_word : List ℕ) (option_words : List (List ℕ)) wher
 
   options_in : (command : Command) → AsksFor Words command → AreOptions option_words command.options
   options_in command asked =
-      subst (λ (os : List (List ℕ)). AreOptions os command.options) (sym (same_option_words command.file command.table asked.date_word asked.option_words asked.words_are)) asked.options_are
+      subst (λ (os : List (List ℕ)). AreOptions os command.options)
+      (sym (same_option_words command.file command.table asked.date_word asked.option_words asked.words_are)) asked.options_are
 
   date_in : (command : Command) → AsksFor Words command → IsDateWord date_word command.date
   date_in command asked =
-      subst (λ (w : List ℕ). IsDateWord w command.date) (sym (same_date_word command.file command.table asked.date_word asked.option_words asked.words_are)) asked.date_is
+      subst (λ (w : List ℕ). IsDateWord w command.date) (sym (same_date_word command.file command.table asked.date_word asked.option_words asked.words_are))
+      asked.date_is
 
   -- if those after it are no options, they request nothing
   pub no_options : ((o : CheckOptions) → AreOptions option_words o → ⊥) → AsksForNothing Words
@@ -55,7 +57,8 @@ module _ (file table date_word : List ℕ) (option_words : List (List ℕ)) wher
     }
 
     -- they request one command
-    pub only_command : ((d : GeneralizedTime) → IsDateWord date_word d → Some date ≡ Some d) → ((o : CheckOptions) → AreOptions option_words o → Some options ≡ Some o)
+    pub only_command : ((d : GeneralizedTime) → IsDateWord date_word d → Some date ≡ Some d)
+        → ((o : CheckOptions) → AreOptions option_words o → Some options ≡ Some o)
         → (command : Command) → AsksFor Words command → Some command_in ≡ Some command
     only_command dates all command asked =
         let same_file : file ≡ command.file = (let are = asked.words_are in cc) in

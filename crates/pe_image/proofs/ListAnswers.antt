@@ -29,7 +29,8 @@ refused_as : List ℕ → Line
 refused_as text = record { status = 1; text = text }
 
 -- refusals with one line have one report
-with_line : (e f : PeCheckError) (result : Result Report Stop) → refused_line e ≡ refused_line f → IsReported reporting (Err e) result → GivesReport reporting (Err f) result
+with_line : (e f : PeCheckError) (result : Result Report Stop) → refused_line e ≡ refused_line f → IsReported reporting (Err e) result
+    → GivesReport reporting (Err f) result
 with_line e f result same = same_report reporting (Err e) (Err f) result (ap refused_as same)
 
 -- the same result with the list at another place
@@ -59,7 +60,8 @@ module _ (judge : Judge) (date : GeneralizedTime) (options : CheckOptions) (octe
 
     -- ---- if it isn't
 
-    same_line : (e f : PeCheckError) (result : Result Report Stop) → IsListRefusal list_octets (Err e) → IsListRefusal list_octets (Err f) → IsReported reporting (Err e) result
+    same_line : (e f : PeCheckError) (result : Result Report Stop) → IsListRefusal list_octets (Err e) → IsListRefusal list_octets (Err f)
+        → IsReported reporting (Err e) result
         → (IsOutOfMemory (Err f) → ⊥) → IsReported reporting (Err f) result
     same_line e f result a b h other = elim (unread_line list_octets e a) [
       | inl memory ↦ out_of_memory reporting (Err e) (Err f) result (wants e memory) h
@@ -79,4 +81,5 @@ module _ (judge : Judge) (date : GeneralizedTime) (options : CheckOptions) (octe
     pub unread_reported : (e : PeCheckError) → IsListRefusal list_octets (Err e) → (result : Result Report Stop) → IsReported reporting (Err e) result
         → Reports reporting (IsListAnswer judge (program_policy date options) octets (list_octets ∷ others)) result
     unread_reported e unread result h =
-        reported_is reporting (IsListAnswer judge (program_policy date options) octets (list_octets ∷ others)) (Err e) result (inl unread) h (given_unread e unread result h)
+        reported_is reporting (IsListAnswer judge (program_policy date options) octets (list_octets ∷ others)) (Err e) result (inl unread) h
+        (given_unread e unread result h)

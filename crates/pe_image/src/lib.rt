@@ -18,4 +18,4 @@ pub use check::check_pe;
 pub use error::PeCheckError;
 pub use hashing::image_hash;
 pub use pe_core::{PeError, PeImage};
-pub use program::{run, Checks};
+pub use program::{Commands, run};

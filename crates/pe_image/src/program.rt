@@ -11,7 +11,7 @@ use crate::words::command_of;
 use program_frame::{KnownTable, Program, Shelf, Sink, run_by_table};
 use std::alloc::Global;
 
-/// Checks the signed program that the words FILE TABLE DATE and options name, with files of the
+/// Commands the signed program that the words FILE TABLE DATE and options name, with files of the
 /// shelf; writes one line to the sink if there is a result, and returns the exit status, one of the
 /// constants of `program_frame`.
 pub fn run<F: Shelf, O: Sink>(alloc: Global, words: &[String], shelf: &mut F, out: &mut O) -> u8
@@ -23,20 +23,22 @@ pub fn run<F: Shelf, O: Sink>(alloc: Global, words: &[String], shelf: &mut F, ou
     ensures ends { IsRun program (map string_bytes words.now) F.state shelf.old shelf.new
         (O.state out.old) (O.state out.new) result }
 {
-    Checks { known: None }.run(alloc, words, shelf, out)
+    Commands { known: None }.run(alloc, words, shelf, out)
 }
 
 /// The program. A verdict table may be known before the files are read: a file with its text isn't
 /// parsed again.
 #[derive(Clone, Copy)]
-pub struct Checks<'a> {
+pub struct Commands<'a> {
     pub known: Option<&'a KnownTable>,
 }
 
-impl Program for Checks<'_> {
+impl Program for Commands<'_> {
+    ghost use Rattle.pe_image.specs.Commands.{program as the_program};
+
     ghost Asked = { Command };
 
-    ghost program = { program };
+    ghost program = { the_program };
 
     ghost Acceptance = { IsVouchedProgram };
 

@@ -9,6 +9,6 @@ use Rattle.program_frame.specs.Held.{options_held}
 abbrev pub command_held : HeldCommand → Command
 command_held (held.Basic signature table hash) = Basic signature.now table.now hash.items
 command_held (held.Check signature table hash date options) =
-    Check signature.now table.now hash.items date (options_held options)
+    Check signature.now (string_bytes table.now) hash.items date (options_held options)
 command_held (held.Chain table date certificates) =
     Chain table.now date (map string_bytes certificates.names.now)

@@ -27,7 +27,7 @@ pub(crate) enum Command<'a> {
     /// interval, and whether a trust list has its CA.
     Check {
         signature: &'a str,
-        table: &'a str,
+        table: &'a String,
         hash: Vec<u8>,
         date: UtcDate,
         options: CheckOptions<'a>,
@@ -115,7 +115,7 @@ fn check_of(alloc: Global, words: &[String]) -> Result<Option<Command<'_>>, Allo
     };
     Ok(Some(Command::Check {
         signature: signature.as_str(),
-        table: table.as_str(),
+        table,
         hash,
         date,
         options,

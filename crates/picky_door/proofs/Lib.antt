@@ -1,3 +1,1 @@
 mod GivenFiles
-mod LowStatuses
-mod OverNewShelf

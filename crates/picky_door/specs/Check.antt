@@ -1,7 +1,6 @@
 -- The files of a call on a signature, and what its acceptance means.
-use Rattle.std.specs.Prelude.{ℕ, List, [], Option, Some, None, if◌then◌else◌, bytes_eq, codes}
-use Rattle.door_frame.specs.Call.{ForShelf, unread_files}
-use Rattle.door_frame.specs.Words.{lines_of}
+use Rattle.std.specs.Prelude.{ℕ, List, Option, Some, None, if◌then◌else◌, bytes_eq, codes}
+use Rattle.door_frame.specs.Call.{IsAcceptedCall}
 use Rattle.picky_check.specs.Vouched.{IsVouched}
 use Rattle.program_frame.specs.Shelf.{Files}
 
@@ -14,5 +13,4 @@ check_files signature table list name =
 
 -- What the words name among these files is vouched for, and the line says so.
 abbrev pub IsVouchedCall : (text : List ℕ) → Files → (line : List ℕ) → Type 0
-IsVouchedCall text files line = ForShelf (λ shelf_now.
-    IsVouched (lines_of text) (unread_files files) shelf_now (Some []) (Some line))
+IsVouchedCall text files line = IsAcceptedCall IsVouched text files line

@@ -1,17 +1,14 @@
 //! The commands `basic` and `check` of `picky_check` over a signature file, a trust list and a verdict table.
 
 ghost use Rattle.std.specs.Prelude.{◌≡◌, ◌≤◌, Some, drop, length, take};
-ghost use Rattle.std.specs.Option.{option_copied};
-ghost use Rattle.door_frame.specs.Call.{IsCall, IsCallOf};
-ghost use Rattle.door_frame.specs.Files.{lent_files};
+ghost use Rattle.door_frame.specs.Call.{IsCallOf};
 ghost use Rattle.door_frame.specs.Handle.{text_of};
-ghost use Rattle.door_frame.specs.Words.{lines_of};
 ghost use Rattle.picky_check.specs.Answer.{commands};
 ghost use Rattle.picky_door.specs.Check.{IsVouchedCall, check_files};
 ghost use Rattle.program_frame.specs.Statuses as statuses;
 
-use door_frame::{HandedOut, LentFile, LentShelf, TableHandle, hand_out, words_of};
-use picky_check::{KnownTable, MemSink, USAGE, run_with};
+use door_frame::{LentFile, TableHandle, call};
+use picky_check::Commands;
 use std::alloc::Global;
 
 /// Runs the command that the words request, one a line, as the program does where the files SIG,
@@ -37,13 +34,22 @@ pub extern "C" fn picky_check_bytes(
     ensures called { IsCallOf commands words.now (check_files signature.now (Some table.now) list.now)
         (length line.old) (take written.new line.new) result }
 {
-    let Ok(words) = str::from_utf8(words) else {
-        *written = 0;
-        return USAGE;
-    };
-    let handed = call_over(alloc, words, signature, Some(table), None, list, line);
-    *written = handed.written;
-    handed.status
+    let files = [
+        LentFile {
+            name: "SIG",
+            octets: signature,
+        },
+        LentFile {
+            name: "LIST",
+            octets: list,
+        },
+        LentFile {
+            name: "TABLE",
+            octets: table,
+        },
+    ];
+    let commands = Commands { known: None };
+    call(alloc, &commands, words, Some(&files), line, written)
 }
 
 /// The same under the table of a handle, which has been parsed before; with no table in it, there is
@@ -71,62 +77,6 @@ pub extern "C" fn picky_check_with_table(
         (check_files signature.now (text_of table.old.known) list.now)
         (length line.old) (take written.new line.new) result }
 {
-    let Ok(words) = str::from_utf8(words) else {
-        *written = 0;
-        return USAGE;
-    };
-    let handed = call_under(alloc, words, signature, table, list, line);
-    *written = handed.written;
-    handed.status
-}
-
-/// A run under the table of a handle.
-fn call_under(
-    alloc: Global,
-    words: &str,
-    signature: &[u8],
-    table: &mut TableHandle,
-    list: &[u8],
-    line: &mut [u8],
-) -> HandedOut
-    ensures known { table.new.known ≡ table.old.known }
-    ensures fits { result.written ≤ length line.new }
-    ensures behind { drop result.written line.new ≡ drop result.written line.old }
-    ensures vouched_for { result.status ≡ statuses.accepted → IsVouchedCall words.now
-        (check_files signature.now (text_of table.old.known) list.now) (take result.written line.new) }
-    ensures called { IsCall commands (lines_of words.now)
-        (check_files signature.now (text_of table.old.known) list.now)
-        (length line.old) (take result.written line.new) result.status }
-{
-    match table.take(alloc) {
-        Some(known) => {
-            let text = Some(known.text());
-            let handed = call_over(alloc, words, signature, text, Some(&known), list, line);
-            table.put(alloc, Some(known));
-            handed
-        }
-        None => call_over(alloc, words, signature, None, None, list, line),
-    }
-}
-
-/// A run over these files. A table may be known already.
-fn call_over(
-    alloc: Global,
-    words: &str,
-    signature: &[u8],
-    table: Option<&[u8]>,
-    known: Option<&KnownTable>,
-    list: &[u8],
-    line: &mut [u8],
-) -> HandedOut
-    ensures fits { result.written ≤ length line.new }
-    ensures behind { drop result.written line.new ≡ drop result.written line.old }
-    ensures vouched_for { result.status ≡ statuses.accepted → IsVouchedCall words.now
-        (check_files signature.now (option_copied table.entry) list.now) (take result.written line.new) }
-    ensures called { IsCall commands (lines_of words.now)
-        (check_files signature.now (option_copied table.entry) list.now)
-        (length line.old) (take result.written line.new) result.status }
-{
     let signature = LentFile {
         name: "SIG",
         octets: signature,
@@ -135,40 +85,24 @@ fn call_over(
         name: "LIST",
         octets: list,
     };
-    match table {
-        Some(octets) => {
-            let table = LentFile {
+    match table.take(alloc) {
+        Some(known) => {
+            let text = LentFile {
                 name: "TABLE",
-                octets,
+                octets: known.text(),
             };
-            call(alloc, words, &[signature, list, table], known, line)
+            let files = [signature, list, text];
+            let commands = Commands {
+                known: Some(&known),
+            };
+            let status = call(alloc, &commands, words, Some(&files), line, written);
+            table.put(alloc, Some(known));
+            status
         }
-        None => call(alloc, words, &[signature, list], known, line),
+        None => {
+            let files = [signature, list];
+            let commands = Commands { known: None };
+            call(alloc, &commands, words, Some(&files), line, written)
+        }
     }
-}
-
-/// A run over borrowed files, whose line is handed out. A table may be known already.
-pub(crate) fn call(
-    alloc: Global,
-    words: &str,
-    files: &[LentFile<'_>],
-    known: Option<&KnownTable>,
-    line: &mut [u8],
-) -> HandedOut
-    ensures fits { result.written ≤ length line.new }
-    ensures behind { drop result.written line.new ≡ drop result.written line.old }
-    ensures vouched_for { result.status ≡ statuses.accepted
-        → IsVouchedCall words.now (lent_files files.now) (take result.written line.new) }
-    ensures called { IsCall commands (lines_of words.now) (lent_files files.now) (length line.old)
-        (take result.written line.new) result.status }
-{
-    let Ok(words) = words_of(alloc, words) else {
-        return HandedOut::out_of_memory();
-    };
-    let Ok(mut sink) = MemSink::with_room(alloc, line.len()) else {
-        return HandedOut::out_of_memory();
-    };
-    let mut shelf = LentShelf::new(files);
-    let status = run_with(alloc, &words, known, &mut shelf, &mut sink);
-    hand_out(status, sink.held(), line)
 }

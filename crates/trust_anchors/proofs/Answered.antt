@@ -1,6 +1,5 @@
 -- A report of an answer is a report of each answer, and an acceptance reports the first path.
-use Rattle.std.proofs.Common.{◌≡◌, ℕ, ◌≤◌, List, [], ◌∷◌, length, map, Option, Some, None, MatchOption, Result, Ok, Err, sym, subst, ◌∙◌, arith}
-use Rattle.std.specs.Prelude.{string_bytes}
+use Rattle.std.proofs.Common.{◌≡◌, ℕ, ◌≤◌, List, [], ◌∷◌, length, map, Option, Some, None, MatchOption, Ok, Err, sym, ap, subst, ◌∙◌, arith}
 use Rattle.std.proofs.lemmas.List.Sums.{sum_by-cons}
 use Rattle.key_core.specs.Verifying.{Judge}
 use Rattle.sig_core.specs.declared.verdict_row.VerdictRow.{VerdictRow}
@@ -9,19 +8,18 @@ use Rattle.x509_core.specs.KeptCertificate.{KeptCertificate}
 use Rattle.program_frame.specs.declared.report.Report.{Report}
 use Rattle.program_frame.specs.declared.stop.Stop.{Stop}
 use Rattle.program_frame.specs.declared.stop.Stop.TheVariants as stop
-use Rattle.program_frame.specs.Inquiry.{GivesLine}
 use Rattle.program_frame.specs.Limits.{AreWholeFiles}
-use Rattle.program_frame.specs.Question.{Line}
+use Rattle.program_frame.specs.Commands.{Line}
 use Rattle.program_frame.specs.ReadFiles.{HandsOut, total_length}
 use Rattle.program_frame.specs.Run.{IsRunAnswer}
 use Rattle.program_frame.specs.Shelf.{ShelfState}
 use Rattle.program_frame.specs.Sink.{Appends}
 use Rattle.trust_anchors.specs.AnchoredPath.{HasNoPath, IsAnchoredPath}
-use Rattle.trust_anchors.specs.Answer.{AreGiven, IsAnswerTo, IsSearchResult, certificates_in, code_anchor, command, report_line, status_of, table_in}
+use Rattle.trust_anchors.specs.Answer.{AreGiven, IsAnswerTo, IsSearchResult, certificates_in, code_anchor, program, report_line, reporting, status_of, table_in}
 use Rattle.trust_anchors.specs.FirstPath.{IsFirstPath}
-use Rattle.trust_anchors.specs.Inquiry.{IsReportOf, IsReported, Reports}
+use Rattle.program_frame.specs.Reports.{IsReportOf, Reports}
 use Rattle.trust_anchors.specs.Reported.{IsReportedPath}
-use Rattle.trust_anchors.specs.Words.{AsksFor, Job, files_of}
+use Rattle.trust_anchors.specs.Words.{AsksFor, Command, files_of}
 use Rattle.trust_anchors.specs.declared.anchor.Anchor.{Anchor}
 use Rattle.trust_anchors.specs.declared.path.AnchoredPath.{AnchoredPath}
 use Rattle.trust_anchors.specs.declared.report.Answer.{Answer}
@@ -29,7 +27,8 @@ use Rattle.trust_anchors.specs.declared.report.Answer.TheVariants.{Anchored, NoP
 use Rattle.trust_anchors.proofs.Certificates.{one_answer}
 
 -- that nothing is found means that there is no path
-pub none_found : (IsOne : AnchoredPath → Type 0) (found : Option AnchoredPath) → found ≡ None → MatchOption found (HasNoPath IsOne) (IsFirstPath IsOne) → HasNoPath IsOne
+pub none_found : (IsOne : AnchoredPath → Type 0) (found : Option AnchoredPath) → found ≡ None → MatchOption found (HasNoPath IsOne) (IsFirstPath IsOne)
+    → HasNoPath IsOne
 none_found IsOne None is h = h
 none_found IsOne (Some path) is h = absurd cc
 
@@ -40,58 +39,53 @@ low (Anchored path) = omega arith
 low NoPath = omega arith
 low Unread = omega arith
 
--- a report of an answer has the line that reports it
-pub gives_line : (answer : Answer) (line : Line) (result : Result Report Stop) → line.status ≡ status_of answer → line.text ≡ report_line answer
-    → IsReported answer result → GivesLine line result
-gives_line answer line (Ok report) status text h =
-    let same_status : report.status ≡ line.status = h.status ∙ sym status in
-    let same_text : string_bytes report.line ≡ line.text = h.line ∙ sym text in
-    λ i. record { status = same_status i; text = same_text i }
-gives_line answer line (Err s) status text h = h
-
 -- without a report memory ran out
-pub memory_reports : (Is : Answer → Type 0) (s : Stop) → s ≡ stop.Memory → Reports Is (Err s)
-memory_reports Is s is = record { reported = tt; stopped = is; only = λ other also. is }
+pub memory_reports : (Is : Answer → Type 0) (s : Stop) → s ≡ stop.Memory → Reports reporting Is (Err s)
+memory_reports Is s is = record { reported = tt; stopped = is; only = λ other also none. is }
 
-pub answer_reports : (judge : Judge) (job : Job) (octets : List (List ℕ)) (answer : Answer) (report : Report) → IsAnswerTo judge job octets answer → IsReportOf answer report
-    → Reports (IsAnswerTo judge job octets) (Ok report)
-answer_reports judge job octets answer report is h = record {
+pub answer_reports : (judge : Judge) (command : Command) (octets : List (List ℕ)) (answer : Answer) (report : Report) → IsAnswerTo judge command octets answer
+    → IsReportOf reporting answer report
+    → Reports reporting (IsAnswerTo judge command octets) (Ok report)
+answer_reports judge command octets answer report is h = record {
   reported = (answer, is, h);
   stopped = tt;
-  only = λ other also. subst (λ (a : Answer). IsReportOf a report) (one_answer judge job octets answer other is also) h;
+  only = λ other also none. subst (λ (a : Answer). IsReportOf reporting a report) (one_answer judge command octets answer other is also) h;
 }
 
--- what is found for the certificates of a job is its answer
-pub found_answer : (judge : Judge) (job : Job) (read octets : List (List ℕ)) (store : List Anchor) (checked : KeptCertificate) (pool : List KeptCertificate) (answer : Answer)
-    → read ≡ octets → (anchors : List KeptCertificate) × (store ≡ map code_anchor anchors) × AreGiven job.number read anchors checked pool
-    → IsSearchResult (IsAnchoredPath judge job.date checked pool store job.purpose) answer → IsAnswerTo judge job octets answer
-found_answer judge job read octets store checked pool Unread same given h = absurd h
-found_answer judge job read octets store checked pool (Anchored path) same given h = record {
+-- what is found for the certificates of a command is its answer
+pub found_answer : (judge : Judge) (command : Command) (read octets : List (List ℕ)) (store : List Anchor) (checked : KeptCertificate)
+    (pool : List KeptCertificate) (answer : Answer)
+    → read ≡ octets → (anchors : List KeptCertificate) × (store ≡ map code_anchor anchors) × AreGiven command.number read anchors checked pool
+    → IsSearchResult (IsAnchoredPath judge command.date checked pool store command.purpose) answer → IsAnswerTo judge command octets answer
+found_answer judge command read octets store checked pool Unread same given h = absurd h
+found_answer judge command read octets store checked pool (Anchored path) same given h = record {
   anchors = given.0;
   checked = checked;
   pool = pool;
-  given = subst (λ (os : List (List ℕ)). AreGiven job.number os given.0 checked pool) same given.2;
-  found = subst (λ (s : List Anchor). IsSearchResult (IsAnchoredPath judge job.date checked pool s job.purpose) (Anchored path)) given.1 h;
+  given = subst (λ (os : List (List ℕ)). AreGiven command.number os given.0 checked pool) same given.2;
+  found = subst (λ (s : List Anchor). IsSearchResult (IsAnchoredPath judge command.date checked pool s command.purpose) (Anchored path)) given.1 h;
 }
-found_answer judge job read octets store checked pool NoPath same given h = record {
+found_answer judge command read octets store checked pool NoPath same given h = record {
   anchors = given.0;
   checked = checked;
   pool = pool;
-  given = subst (λ (os : List (List ℕ)). AreGiven job.number os given.0 checked pool) same given.2;
-  found = subst (λ (s : List Anchor). IsSearchResult (IsAnchoredPath judge job.date checked pool s job.purpose) NoPath) given.1 h;
+  given = subst (λ (os : List (List ℕ)). AreGiven command.number os given.0 checked pool) same given.2;
+  found = subst (λ (s : List Anchor). IsSearchResult (IsAnchoredPath judge command.date checked pool s command.purpose) NoPath) given.1 h;
 }
 
 -- ---- acceptance
 
 module _ (words : List (List ℕ)) (shelf shelf_now : ShelfState) (held held_now : Option (List ℕ)) where
-  of_path : (job : Job) (contents : List (List ℕ)) (rows : List VerdictRow) (answer : Answer) → AsksFor words job → AreWholeFiles shelf.files (files_of job) contents
-      → HandsOut (total_length contents) shelf shelf_now → IsTable (table_in contents) rows → IsAnswerTo (verdict_of rows) job (certificates_in contents) answer
+  of_path : (command : Command) (contents : List (List ℕ)) (rows : List VerdictRow) (answer : Answer) → AsksFor words command
+      → AreWholeFiles shelf.files (files_of command) contents
+      → HandsOut (total_length contents) shelf shelf_now → IsTable (table_in contents) rows
+      → IsAnswerTo (verdict_of rows) command (certificates_in contents) answer
       → status_of answer ≡ 0 → Appends held (report_line answer) held_now → IsReportedPath words shelf shelf_now held held_now
-  of_path job [] rows answer asked are given is_table is_answer zero written = absurd are
-  of_path job (text ∷ octets) rows NoPath asked are given is_table is_answer zero written = absurd (omega arith)
-  of_path job (text ∷ octets) rows Unread asked are given is_table is_answer zero written = absurd (omega arith)
-  of_path job (text ∷ octets) rows (Anchored path) asked are given is_table is_answer zero written = record {
-    job = job;
+  of_path command [] rows answer asked are given is_table is_answer zero written = absurd are
+  of_path command (text ∷ octets) rows NoPath asked are given is_table is_answer zero written = absurd (omega arith)
+  of_path command (text ∷ octets) rows Unread asked are given is_table is_answer zero written = absurd (omega arith)
+  of_path command (text ∷ octets) rows (Anchored path) asked are given is_table is_answer zero written = record {
+    command = command;
     asked = asked;
     text = text;
     rows = rows;
@@ -109,10 +103,11 @@ module _ (words : List (List ℕ)) (shelf shelf_now : ShelfState) (held held_now
     written = written;
   }
 
-  pub reported_path : (line : Line) → IsRunAnswer command words shelf shelf_now line → line.status ≡ 0 → Appends held line.text held_now
+  pub reported_path : (line : Line) → IsRunAnswer program words shelf shelf_now line → line.status ≡ 0 → Appends held line.text held_now
       → IsReportedPath words shelf shelf_now held held_now
   reported_path line h zero written =
       let read = h.2 in
       let returned = read.is_answered.is_answer in
-      of_path h.0 read.is_answered.contents returned.rows returned.answer h.1 read.is_answered.are_files read.given returned.is_table returned.is_answer (sym returned.status ∙ zero)
-      (subst (λ (text : List ℕ). Appends held text held_now) returned.text written)
+      of_path h.0 read.is_answered.contents returned.rows returned.answer h.1 read.is_answered.are_files read.given returned.is_table returned.is_answer
+      (sym (ap (λ (l : Line). l.status) returned.line_is) ∙ zero)
+      (subst (λ (text : List ℕ). Appends held text held_now) (ap (λ (l : Line). l.text) returned.line_is) written)

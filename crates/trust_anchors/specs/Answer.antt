@@ -1,16 +1,16 @@
 -- The answer for the certificates of the files, and the line that reports it; the program.
 use Rattle.std.specs.Prelude.{◌≡◌, ℕ, List, [], ◌∷◌, ◌++◌, false, true, length, map, codes}
 use Rattle.key_core.specs.Verifying.{Judge}
-use Rattle.sig_core.specs.declared.verdict_row.VerdictRow.{VerdictRow}
-use Rattle.sig_core.specs.VerdictTable.{IsTable, IsFirstBadLine, newline, verdict_of}
+use Rattle.sig_core.specs.VerdictTable.{newline}
 use Rattle.x509_core.specs.KeptCertificate.{KeptCertificate, kept_octets}
-use Rattle.program_frame.specs.Question.{Line, Question}
-use Rattle.program_frame.specs.Run.{Program}
+use Rattle.program_frame.specs.Commands.{Program}
+use Rattle.program_frame.specs.Reports.{Reporting}
+use Rattle.program_frame.specs.Tables.{TableProgram, by_table}
 use Rattle.program_frame.specs.Statuses as statuses
 use Rattle.trust_anchors.specs.AnchoredPath.{HasNoPath, IsAnchoredPath}
 use Rattle.trust_anchors.specs.FirstPath.{IsFirstPath}
 use Rattle.trust_anchors.specs.PathText.{anchored_line}
-use Rattle.trust_anchors.specs.Words.{AsksFor, Job, files_of}
+use Rattle.trust_anchors.specs.Words.{AsksFor, Command, files_of}
 use Rattle.trust_anchors.specs.declared.anchor.Anchor.{Anchor}
 use Rattle.trust_anchors.specs.declared.path.AnchoredPath.{AnchoredPath}
 use Rattle.trust_anchors.specs.declared.report.Answer.{Answer}
@@ -43,11 +43,11 @@ code_anchor certificate = record { cert = certificate; code = true; time = false
 
 -- ---- the answer
 
--- the path of the job is anchored, through the pool to one of the anchors
-abbrev pub IsPathOf : Judge → Job → (anchors : List KeptCertificate) → (checked : KeptCertificate)
+-- the path of the command is anchored, through the pool to one of the anchors
+abbrev pub IsPathOf : Judge → Command → (anchors : List KeptCertificate) → (checked : KeptCertificate)
     → (pool : List KeptCertificate) → AnchoredPath → Type 0
-IsPathOf judge job anchors checked pool =
-    IsAnchoredPath judge job.date checked pool (map code_anchor anchors) job.purpose
+IsPathOf judge command anchors checked pool =
+    IsAnchoredPath judge command.date checked pool (map code_anchor anchors) command.purpose
 
 -- the first of the shortest paths, or that there is none
 abbrev pub IsSearchResult : (AnchoredPath → Type 0) → Answer → Type 0
@@ -56,19 +56,19 @@ IsSearchResult IsOne NoPath = HasNoPath IsOne
 IsSearchResult IsOne Unread = ⊥
 
 -- The answer is that of the search over the certificates with these octets.
-pub record IsFoundAmong (judge : Judge) (job : Job) (octets : List (List ℕ))
+pub record IsFoundAmong (judge : Judge) (command : Command) (octets : List (List ℕ))
     (answer : Answer) : Type 0 where
   pub anchors : List KeptCertificate
   pub checked : KeptCertificate
   pub pool : List KeptCertificate
-  pub given : AreGiven job.number octets anchors checked pool
-  pub found : IsSearchResult (IsPathOf judge job anchors checked pool) answer
+  pub given : AreGiven command.number octets anchors checked pool
+  pub found : IsSearchResult (IsPathOf judge command anchors checked pool) answer
 
--- The answer to a job, for the octets of its certificates.
-abbrev pub IsAnswerTo : Judge → Job → (octets : List (List ℕ)) → Answer → Type 0
-IsAnswerTo judge job octets Unread = HasUnread octets
-IsAnswerTo judge job octets (Anchored path) = IsFoundAmong judge job octets (Anchored path)
-IsAnswerTo judge job octets NoPath = IsFoundAmong judge job octets NoPath
+-- The answer to a command, for the octets of its certificates.
+abbrev pub IsAnswerTo : Judge → Command → (octets : List (List ℕ)) → Answer → Type 0
+IsAnswerTo judge command octets Unread = HasUnread octets
+IsAnswerTo judge command octets (Anchored path) = IsFoundAmong judge command octets (Anchored path)
+IsAnswerTo judge command octets NoPath = IsFoundAmong judge command octets NoPath
 
 -- ---- the line
 
@@ -96,28 +96,24 @@ abbrev pub certificates_in : List (List ℕ) → List (List ℕ)
 certificates_in (text ∷ octets) = octets
 certificates_in [] = []
 
--- The line reports the answer to a job for the contents of its files, with the verdicts of its
--- table.
-pub record IsAnswerLine (job : Job) (contents : List (List ℕ)) (line : Line) : Type 0 where
-  pub answer : Answer
-  pub rows : List VerdictRow
-  pub is_table : IsTable (table_in contents) rows
-  pub is_answer : IsAnswerTo (verdict_of rows) job (certificates_in contents) answer
-  pub status : line.status ≡ status_of answer
-  pub text : line.text ≡ report_line answer
+-- how answers are reported; none is out of memory
+abbrev pub reporting : Reporting Answer
+reporting = record {
+  IsOutOfMemory = λ answer. ⊥;
+  line_of = λ answer. record { status = status_of answer; text = report_line answer };
+}
 
--- the table has a bad line
-abbrev pub HasBadLine : (contents : List (List ℕ)) → Type 0
-HasBadLine contents = (number : ℕ) × IsFirstBadLine (table_in contents) number
-
--- a job, as a question about its files
-abbrev pub question_of : Job → Question
-question_of job = record {
-  files = files_of job;
-  HasBadLine = HasBadLine;
-  IsAnswer = IsAnswerLine job;
+-- the program: its command, and its answers by verdicts
+abbrev pub searches : TableProgram Command Answer
+searches = record {
+  AsksFor = AsksFor;
+  files_of = files_of;
+  table_in = λ command contents. table_in contents;
+  IsAnswerTo = λ judge command contents answer.
+      IsAnswerTo judge command (certificates_in contents) answer;
+  reporting = reporting;
 }
 
 -- the program
-abbrev pub command : Program Job
-command = record { AsksFor = AsksFor; question_of = question_of }
+abbrev pub program : Program Command
+program = by_table searches

@@ -1,7 +1,7 @@
 -- Promises, which public contracts cite: all but those named below; first `AnchoredPath`,
 -- `FirstPath`, and for the program `Run`, `Reported`.
 -- Rules, which the promises rest on: `Answer`.
--- Inside, which no public contract cites: `Inside`, `Jobs`, `Inquiry`.
+-- Inside, which no public contract cites: `Inside`, `HeldCommand`, `Inquiry`.
 pub mod Anchors
 pub mod AnchoredPath
 pub mod FirstPath
@@ -10,8 +10,7 @@ pub mod ErrorText
 pub mod PathText
 pub mod Inside
 pub mod Words
-pub mod Jobs
+pub mod HeldCommand
 pub mod Answer
-pub mod Inquiry
-pub mod Run
+pub mod Reading
 pub mod Reported

@@ -10,7 +10,7 @@ use Rattle.program_frame.specs.Sink.{Appends}
 use Rattle.trust_anchors.specs.Answer.{AreGiven, IsPathOf}
 use Rattle.trust_anchors.specs.FirstPath.{IsFirstPath}
 use Rattle.trust_anchors.specs.PathText.{anchored_line}
-use Rattle.trust_anchors.specs.Words.{AsksFor, Job}
+use Rattle.trust_anchors.specs.Words.{AsksFor, Command}
 use Rattle.trust_anchors.specs.declared.path.AnchoredPath.{AnchoredPath}
 
 -- The words are TABLE PURPOSE DATE N A1 .. AN CERT P1 .. The octets of the files A1 .. AN, CERT and
@@ -22,19 +22,19 @@ use Rattle.trust_anchors.specs.declared.path.AnchoredPath.{AnchoredPath}
 -- been appended.
 pub record IsReportedPath (words : List (List ℕ)) (shelf shelf_now : ShelfState)
     (held held_now : Option (List ℕ)) : Type 0 where
-  pub job : Job
-  pub asked : AsksFor words job
+  pub command : Command
+  pub asked : AsksFor words command
   pub text : List ℕ
   pub rows : List VerdictRow
   pub octets : List (List ℕ)
-  pub table_file : IsWholeFile shelf.files job.table text
-  pub certificate_files : AreWholeFiles shelf.files job.certificates octets
+  pub table_file : IsWholeFile shelf.files command.table text
+  pub certificate_files : AreWholeFiles shelf.files command.certificates octets
   pub handed_out : HandsOut (length text + total_length octets) shelf shelf_now
   pub is_table : IsTable text rows
   pub anchors : List KeptCertificate
   pub checked : KeptCertificate
   pub pool : List KeptCertificate
-  pub given : AreGiven job.number octets anchors checked pool
+  pub given : AreGiven command.number octets anchors checked pool
   pub path : AnchoredPath
-  pub first : IsFirstPath (IsPathOf (verdict_of rows) job anchors checked pool) path
+  pub first : IsFirstPath (IsPathOf (verdict_of rows) command anchors checked pool) path
   pub written : Appends held (anchored_line path) held_now

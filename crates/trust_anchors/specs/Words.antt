@@ -7,7 +7,7 @@ use Rattle.trust_anchors.specs.declared.anchor.Purpose.TheVariants as purposes
 
 -- a path from a certificate to an anchor that serves the purpose, at a date, by the signatures that
 -- the table accepts
-pub record Job : Type 0 where
+pub record Command : Type 0 where
   -- the file TABLE
   pub table : List ℕ
   pub purpose : Purpose
@@ -18,8 +18,8 @@ pub record Job : Type 0 where
   pub certificates : List (List ℕ)
 
 -- the names of its files, in the order of reading
-abbrev pub files_of : Job → List (List ℕ)
-files_of job = job.table ∷ job.certificates
+abbrev pub files_of : Command → List (List ℕ)
+files_of command = command.table ∷ command.certificates
 
 -- the word PURPOSE
 abbrev pub purpose_word : Purpose → List ℕ
@@ -33,16 +33,16 @@ pub record IsNumberWord (word : List ℕ) (number : ℕ) : Type 0 where
   pub most : number ≤ 8
 
 -- TABLE PURPOSE DATE N A1 .. AN CERT P1 .., with N files of anchors, and at most 32 of the pool.
-pub record AsksFor (words : List (List ℕ)) (job : Job) : Type 0 where
+pub record AsksFor (words : List (List ℕ)) (command : Command) : Type 0 where
   pub date_word : List ℕ
   pub number_word : List ℕ
   pub words_are : words
-      ≡ job.table ∷ purpose_word job.purpose ∷ date_word ∷ number_word ∷ job.certificates
-  pub date_is : IsDateWord date_word job.date
-  pub number_is : IsNumberWord number_word job.number
-  pub some : job.number + 1 ≤ length job.certificates
-  pub most : length job.certificates ≤ job.number + 33
+      ≡ command.table ∷ purpose_word command.purpose ∷ date_word ∷ number_word ∷ command.certificates
+  pub date_is : IsDateWord date_word command.date
+  pub number_is : IsNumberWord number_word command.number
+  pub some : command.number + 1 ≤ length command.certificates
+  pub most : length command.certificates ≤ command.number + 33
 
 -- the words are no command
 abbrev pub AsksForNothing : List (List ℕ) → Type 0
-AsksForNothing words = (job : Job) → AsksFor words job → ⊥
+AsksForNothing words = (command : Command) → AsksFor words command → ⊥

@@ -3,9 +3,9 @@
 #![tactic(auto)]
 
 mod anchor;
+mod answering;
+mod command;
 mod error;
-mod inquiry;
-mod job;
 mod laws;
 mod path;
 mod program;

@@ -1,15 +1,13 @@
 //! A run of the program: words, files, report, and exit status.
 
-ghost use Rattle.std.specs.Prelude.{◌≡◌, length, map, string_bytes};
-ghost use Rattle.der_core.specs.Counts.{FailsOnce};
-ghost use Rattle.program_frame.specs.ReadFiles.{HandsOutAtMost};
+ghost use Rattle.std.specs.Prelude.{◌≡◌, map, string_bytes};
+ghost use Rattle.program_frame.specs.Run.{IsRun};
 ghost use Rattle.program_frame.specs.Statuses as statuses;
+ghost use Rattle.trust_anchors.specs.Answer.{program};
 ghost use Rattle.trust_anchors.specs.Reported.{IsReportedPath};
-ghost use Rattle.trust_anchors.specs.Run.{IsRun};
-ghost use Rattle.trust_anchors.specs.Words.{AsksFor, AsksForNothing, Job, files_of};
 
-use crate::words::job_of;
-use program_frame::{Shelf, Sink, USAGE, answer, finish};
+use crate::words::command_of;
+use program_frame::{Shelf, Sink, run_by_table};
 use std::alloc::Global;
 
 /// Runs the program `picky_anchor` on the words of its command line, with files of the shelf:
@@ -20,23 +18,9 @@ pub fn run<F: Shelf, O: Sink>(alloc: Global, words: &[String], shelf: &mut F, ou
     ensures anchored { result ≡ statuses.accepted
         → IsReportedPath (map string_bytes words.now) (F.state shelf.old) (F.state shelf.new)
         (O.state out.old).held (O.state out.new).held }
-    // Nothing is read if the words are no command.
-    ensures unread { AsksForNothing (map string_bytes words.now) → shelf.new ≡ shelf.old }
-    // Whatever the status, no more is read than one octet more than the longest file for each file
-    // of the command.
-    ensures at_most { (job : Job) → AsksFor (map string_bytes words.now) job
-        → HandsOutAtMost (length (files_of job)) (F.state shelf.old) (F.state shelf.new) }
-    // A failed call of the shelf or of the sink is the last one, and the status reports it.
-    ensures shelf_once { FailsOnce (result ≡ statuses.shelf_failed) (F.state shelf.old).faults
-        (F.state shelf.new).faults }
-    ensures sink_once { FailsOnce (result ≡ statuses.sink_failed) (O.state out.old).faults
-        (O.state out.new).faults }
     // What each status means, and when it is returned.
-    ensures ends { IsRun (map string_bytes words.now) (F.state shelf.old) (F.state shelf.new)
+    ensures ends { IsRun program (map string_bytes words.now) F.state shelf.old shelf.new
         (O.state out.old) (O.state out.new) result }
 {
-    match job_of(words) {
-        Some(job) => finish(out, answer(alloc, shelf, &job)),
-        None => USAGE,
-    }
+    run_by_table(alloc, &Ok(command_of(words)), None, shelf, out)
 }

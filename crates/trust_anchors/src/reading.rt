@@ -4,7 +4,7 @@ ghost use Rattle.std.specs.Prelude.{◌≡◌, ◌≢◌, ◌+◌, ◌<◌, ◌+
 ghost use Rattle.x509_core.specs.KeptCertificate.{KeptCertificate, kept_octets};
 ghost use Rattle.x509_core.specs.declared.error.CertError.TheVariants as errors;
 ghost use Rattle.trust_anchors.specs.Answer.{AreGiven, code_anchor};
-ghost use Rattle.trust_anchors.specs.Inquiry.{AppendsAnchors, AppendsRead, IsUnread};
+ghost use Rattle.trust_anchors.specs.Reading.{AppendsAnchors, AppendsRead, IsUnread};
 ghost use Rattle.trust_anchors.specs.declared.reading.ReadError.TheVariants as unread;
 
 use crate::error::AnchorError;
@@ -29,7 +29,7 @@ impl<T: Drop> From<AllocFailed<T>> for ReadError {
     }
 }
 
-/// The certificates of a job.
+/// The certificates of a command.
 #[derive(Debug, Drop)]
 pub(crate) struct Given {
     /// The anchors, each trusted for signing code alone.

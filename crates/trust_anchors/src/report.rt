@@ -1,7 +1,8 @@
 //! The line that a run reports, and its status.
 
 ghost use Rattle.std.specs.Prelude.{◌≡◌, IfOk, string_bytes};
-ghost use Rattle.trust_anchors.specs.Inquiry.{IsReportOf};
+ghost use Rattle.program_frame.specs.Reports.{IsReportOf};
+ghost use Rattle.trust_anchors.specs.Answer.{reporting};
 ghost use Rattle.trust_anchors.specs.PathText.{anchored_line};
 
 use crate::path::AnchoredPath;
@@ -21,7 +22,7 @@ pub(crate) enum Answer {
 
 /// The report of an answer.
 pub(crate) fn report_of(alloc: Global, answer: &Answer) -> Result<Report, AllocError>
-    ensures { IfOk result (IsReportOf answer.now) }
+    ensures { IfOk result (IsReportOf reporting answer.now) }
 {
     match answer {
         Answer::Anchored(path) => Ok(Report {

@@ -1,41 +1,40 @@
 //! The words of the command line.
 
 ghost use Rattle.std.specs.Prelude.{◌≡◌, ℕ, Some, map, MatchOption, option_map, string_bytes};
-ghost use Rattle.trust_anchors.specs.Jobs.{job_held};
-ghost use Rattle.trust_anchors.specs.Words.{AsksFor, AsksForNothing, IsNumberWord, Job as AskedJob, purpose_word};
+ghost use Rattle.trust_anchors.specs.HeldCommand.{command_held};
+ghost use Rattle.trust_anchors.specs.Words.{AsksFor, AsksForNothing, IsNumberWord, Command as AskedCommand, purpose_word};
 ghost use Rattle.trust_anchors.specs.declared.anchor.Purpose.{Purpose as AskedPurpose};
 
 use crate::anchor::Purpose;
-use crate::job::Job;
+use crate::command::Command;
 use program_frame::date_of;
 
 /// The maximal number of certificates in the pool.
 const MOST_IN_POOL: usize = 32;
 
 /// Parses the words. None exactly if they are no command.
-pub(crate) fn job_of(words: &[String]) -> Option<Job<'_>>
+pub(crate) fn command_of(words: &[String]) -> Option<Command<'_>>
     ensures asked { MatchOption result
         (AsksForNothing (map string_bytes words.now))
-        (λ held. AsksFor (map string_bytes words.now) (job_held held)) }
-    ensures only { (asked : AskedJob) → AsksFor (map string_bytes words.now) asked
-        → option_map job_held result ≡ Some asked }
+        (λ held. AsksFor (map string_bytes words.now) (command_held held)) }
+    ensures only { (asked : AskedCommand) → AsksFor (map string_bytes words.now) asked
+        → option_map command_held result ≡ Some asked }
 {
-    let [table, purpose, date, number, first, others @ ..] = words else {
+    let [table, purpose, date, number, certificates @ ..] = words else {
         return None;
     };
     let purpose = purpose_of(purpose.as_str())?;
     let date = date_of(date.as_str())?;
     let number = number_of(number.as_str())?;
-    if others.len() < number || others.len() - number > MOST_IN_POOL {
+    if certificates.len() <= number || certificates.len() - number - 1 > MOST_IN_POOL {
         return None;
     }
-    Some(Job {
+    Some(Command {
         table: table.as_str(),
         purpose,
         date,
         more: number - 1,
-        first: first.as_str(),
-        others,
+        certificates,
     })
 }
 

@@ -15,7 +15,7 @@ returns-in_default-options_of-clause-only c command asked = absurd (returns-in_d
 pub returns-clause-only : goal.returns-clause-only
 returns-clause-only c command asked =
     let are = command_words string_bytes c.args.words.now c.file-item.result c.table-item.result c.date-item.result
-    c.as_str-2.result.now c.as_str-3.result.now c.as_str.result.now
+    c.as_str-2.result.now (string_bytes c.table-item.result) c.as_str.result.now
     c.in-len3-up.len_at_least c.file-item.is c.table-item.is c.date-item.is
-    (sym c.as_str-2.ensures.value) (sym c.as_str-3.ensures.value) (sym c.as_str.ensures.value) in
+    (sym c.as_str-2.ensures.value) refl (sym c.as_str.ensures.value) in
     only_command _ _ _ _ _ _ c.in-Some.ensures.only c.in-Some-options_of.ensures.only command (rw are at asked)

@@ -1,19 +1,32 @@
-use Rattle.std.proofs.Common.{ℕ, List, length, take, subst}
-use Rattle.door_frame.specs.Call.{IsCall}
+use Rattle.std.proofs.Common.{ℕ, List, Option, Some, None, sym, ap, ◌∙◌}
+use Rattle.std.specs.Prelude.{if◌then◌else◌, bytes_eq, codes}
 use Rattle.door_frame.specs.Handle.{text_of}
-use Rattle.door_frame.specs.Words.{lines_of}
-use Rattle.picky_check.specs.Answer.{commands}
-use Rattle.picky_door.specs.Check.{IsVouchedCall, check_files}
+use Rattle.picky_door.specs.Check.{check_files}
+use Rattle.picky_door.proofs.GivenFiles.{either_way}
 use Rattle.picky_door.proofs.check.picky_check_with_table.Goals as goal
 
-pub returns-clause-vouched_for : goal.returns-clause-vouched_for
-returns-clause-vouched_for c low =
-    subst (λ (words : List ℕ). IsVouchedCall words (check_files c.args.signature.now (text_of c.args.table.now.known) c.args.list.now) (take c.call_under-handed.result.written c.call_under-handed.new.line)) c.in-Ok.ensures.cases.0
-    (c.call_under-handed.ensures.vouched_for low)
+pub returns-in-Some-clause-vouched_for : goal.returns-in-Some-clause-vouched_for
+returns-in-Some-clause-vouched_for c low =
+    c.call-status.ensures.accepted low (check_files c.args.signature.now (text_of c.args.table.now.known) c.args.list.now)
+    (λ name. ap (λ (table : Option (List ℕ)). check_files c.args.signature.now table c.args.list.now name)
+    (ap Some c.text.ensures ∙ ap (λ known. Some known.0) c.deref.ensures ∙ sym (ap text_of c.in-Some.ensures.table)))
 
-pub returns-clause-called : goal.returns-clause-called
-returns-clause-called c = record {
-  call = λ utf8. subst (λ (words : List ℕ). IsCall commands (lines_of words) (check_files c.args.signature.now (text_of c.args.table.now.known) c.args.list.now) (length c.args.line.now) (take c.call_under-handed.result.written c.call_under-handed.new.line) c.call_under-handed.result.status)
-      c.in-Ok.ensures.cases.0 c.call_under-handed.ensures.called;
-  no_words = λ bad. absurd (bad c.in-Ok.ensures.cases.1);
-}
+pub returns-in-Some-clause-called : goal.returns-in-Some-clause-called
+returns-in-Some-clause-called c =
+    c.call-status.ensures.called (check_files c.args.signature.now (text_of c.args.table.now.known) c.args.list.now)
+    (λ name. ap (λ (table : Option (List ℕ)). check_files c.args.signature.now table c.args.list.now name)
+    (ap Some c.text.ensures ∙ ap (λ known. Some known.0) c.deref.ensures ∙ sym (ap text_of c.in-Some.ensures.table)))
+
+pub returns-in-None-clause-vouched_for : goal.returns-in-None-clause-vouched_for
+returns-in-None-clause-vouched_for c low =
+    c.call.ensures.accepted low (check_files c.args.signature.now (text_of c.args.table.now.known) c.args.list.now)
+    (λ name. (λ i. if bytes_eq (codes "SIG") name then Some c.args.signature.now else if bytes_eq (codes "LIST") name then Some c.args.list.now
+    else either_way None (bytes_eq (codes "TABLE") name) i)
+    ∙ ap (λ (table : Option (List ℕ)). check_files c.args.signature.now table c.args.list.now name) (sym (ap text_of c.in-None.ensures.table)))
+
+pub returns-in-None-clause-called : goal.returns-in-None-clause-called
+returns-in-None-clause-called c =
+    c.call.ensures.called (check_files c.args.signature.now (text_of c.args.table.now.known) c.args.list.now)
+    (λ name. (λ i. if bytes_eq (codes "SIG") name then Some c.args.signature.now else if bytes_eq (codes "LIST") name then Some c.args.list.now
+    else either_way None (bytes_eq (codes "TABLE") name) i)
+    ∙ ap (λ (table : Option (List ℕ)). check_files c.args.signature.now table c.args.list.now name) (sym (ap text_of c.in-None.ensures.table)))

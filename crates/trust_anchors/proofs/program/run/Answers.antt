@@ -1,35 +1,15 @@
-use Rattle.std.proofs.Common.{◌∙◌, length, subst, arith}
-use Rattle.program_frame.specs.ReadFiles.{HandsOutAtMost}
-use Rattle.program_frame.proofs.Failing.{failed_as}
-use Rattle.program_frame.proofs.Runs.{IsRun-ended, IsRun-unasked, reports_shelf}
-use Rattle.program_frame.proofs.WordLists.{one_asked}
-use Rattle.trust_anchors.specs.Answer.{command}
-use Rattle.trust_anchors.specs.Jobs.{job_held}
-use Rattle.trust_anchors.specs.Words.{Job, files_of}
+use Rattle.std.proofs.Common.{◌∙◌, arith}
+use Rattle.program_frame.proofs.Parsing.{IsParsed-option}
+use Rattle.trust_anchors.specs.Answer.{program}
+use Rattle.trust_anchors.specs.HeldCommand.{command_held}
 use Rattle.trust_anchors.proofs.Answered.{reported_path}
 use Rattle.trust_anchors.proofs.program.run.Goals as goal
 
-pub returns-in-Some-clause-ends : goal.returns-in-Some-clause-ends
-returns-in-Some-clause-ends g c =
-    IsRun-ended command _ _ _ (job_held c.in-Some.job) (rw c.in-Some.is at c.job_of.ensures.asked)
-    (λ other asked. one_asked job_held c.job_of.result c.in-Some.job other c.in-Some.is (c.job_of.ensures.only other asked))
-    c.answer.result c.answer.ensures.found c.answer.ensures.low _ _ c.finish.ensures.capacity c.finish.result c.finish.ensures.ends
+pub returns-clause-ends : goal.returns-clause-ends
+returns-clause-ends g c =
+    c.run_by_table.ensures _ (IsParsed-option program _ command_held c.command_of.result c.command_of.ensures.asked c.command_of.ensures.only)
 
-pub returns-in-None-clause-ends : goal.returns-in-None-clause-ends
-returns-in-None-clause-ends g c = IsRun-unasked command _ _ _ (rw c.in-None.is at c.job_of.ensures.asked)
-
-pub returns-in-Some-clause-anchored : goal.returns-in-Some-clause-anchored
-returns-in-Some-clause-anchored g c zero =
-    let h = (returns-in-Some-clause-ends g c).reported (omega (arith, zero)) in
+pub returns-clause-anchored : goal.returns-clause-anchored
+returns-clause-anchored g c zero =
+    let h = (returns-clause-ends g c).reported (omega (arith, zero)) in
     reported_path _ _ _ _ _ h.line h.is_answer (h.is_status ∙ zero) h.has_line
-
-pub returns-in-Some-clause-unread : goal.returns-in-Some-clause-unread
-returns-in-Some-clause-unread g c none = absurd (none (job_held c.in-Some.job) (rw c.in-Some.is at c.job_of.ensures.asked))
-
-pub returns-in-Some-clause-at_most : goal.returns-in-Some-clause-at_most
-returns-in-Some-clause-at_most g c other asked =
-    subst (λ (job : Job). HandsOutAtMost (length (files_of job)) (g.F.Shelf.state c.args.shelf.now) (g.F.Shelf.state c.answer.new.shelf))
-    (one_asked job_held c.job_of.result c.in-Some.job other c.in-Some.is (c.job_of.ensures.only other asked)) c.answer.ensures.at_most
-
-pub returns-in-Some-clause-shelf_once : goal.returns-in-Some-clause-shelf_once
-returns-in-Some-clause-shelf_once g c = failed_as (reports_shelf c.answer.result _ _ c.finish.result c.finish.ensures.ends) c.answer.ensures.once

@@ -7,7 +7,8 @@ use Rattle.picky_check.proofs.program.CommandsProgram.run.Goals as goal
 
 pub returns-clause-ends : goal.returns-clause-ends
 returns-clause-ends g c =
-    c.run_by_table.ensures _ (IsParsed-result commands _ command_held c.command_of.result c.command_of.ensures.asked c.command_of.ensures.only c.command_of.ensures.memory)
+    c.run_by_table.ensures _
+    (IsParsed-result commands _ command_held c.command_of.result c.command_of.ensures.asked c.command_of.ensures.only c.command_of.ensures.memory)
 
 pub returns-clause-accepted : goal.returns-clause-accepted
 returns-clause-accepted g c zero =

@@ -1,0 +1,15 @@
+use Rattle.std.proofs.Common.{◌∙◌, arith}
+use Rattle.program_frame.proofs.Parsing.{IsParsed-option}
+use Rattle.pe_image.specs.Commands.{program}
+use Rattle.pe_image.specs.HeldCommand.{command_held}
+use Rattle.pe_image.proofs.Vouching.{vouched_for}
+use Rattle.pe_image.proofs.program.CommandsProgram.run.Goals as goal
+
+pub returns-clause-ends : goal.returns-clause-ends
+returns-clause-ends g c =
+    c.run_by_table.ensures _ (IsParsed-option program _ command_held c.command_of.result c.command_of.ensures.asked c.command_of.ensures.only)
+
+pub returns-clause-accepted : goal.returns-clause-accepted
+returns-clause-accepted g c zero =
+    let h = (returns-clause-ends g c).reported (omega (arith, zero)) in
+    vouched_for _ _ _ _ _ h.line h.is_answer (h.is_status ∙ zero) h.has_line
