@@ -89,11 +89,14 @@ counted_once : (a b c d : ℕ) → ◌≡◌ {A = Result Answer Stop} (Ok (Count
 counted_once a b c d e = cc
 
 -- the certificates of a filled register
-pub issued_count : (date : GeneralizedTime) (lines : List Line) (entries : List Entry) (certificates : List KeptCertificate) → IsFilled lines entries certificates → ∥ IsRegister demo_verdict entries certificates ∥₁
-    → (len number issued accepted : ℕ) → (IsRegister demo_verdict entries certificates → IsCount (IsAcceptedAt demo_verdict entries certificates date) (length entries) number)
+pub issued_count : (date : GeneralizedTime) (lines : List Line) (entries : List Entry) (certificates : List KeptCertificate)
+    → IsFilled lines entries certificates → ∥ IsRegister demo_verdict entries certificates ∥₁
+    → (len number issued accepted : ℕ)
+    → (IsRegister demo_verdict entries certificates → IsCount (IsAcceptedAt demo_verdict entries certificates date) (length entries) number)
     → ◌≡◌ {A = Result Answer Stop} (Ok (Counted len number)) (Ok (Counted issued accepted)) → ∥ AreIssued date lines accepted ∥₁
 issued_count date lines entries certificates filled kept len number issued accepted count same = ∥∥₁_map kept (λ is.
-    let counted = subst (IsCount (IsAcceptedAt demo_verdict entries certificates date) (length entries)) (counted_once len number issued accepted same) (count is) in
+    let counted =
+    subst (IsCount (IsAcceptedAt demo_verdict entries certificates date) (length entries)) (counted_once len number issued accepted same) (count is) in
     let many : length entries ≡ length lines = ap (λ (es : List Entry). length es) filled.recorded ∙ length-map lines entry_of in
     record {
       certificates = certificates;
@@ -145,7 +148,13 @@ module _ (command : Command) (text : List ℕ) (others : List (List ℕ)) where
     text_report (Ok report) reports counted =
         let is = reports.reported in
         record {
-          reported = record { lines = lines; is_text = is_text; answer = is.0; is_answer = is.1; line_is = gives_line reporting is.0 (reporting.line_of is.0) (Ok report) refl is.2 };
+          reported = record {
+            lines = lines;
+            is_text = is_text;
+            answer = is.0;
+            is_answer = is.1;
+            line_is = gives_line reporting is.0 (reporting.line_of is.0) (Ok report) refl is.2;
+          };
           promised = λ zero. record { lines = lines; is_text = is_text; counted = counted zero };
           low = omega (arith, is.2.status, low_status is.0);
           stopped = tt;

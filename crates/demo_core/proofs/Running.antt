@@ -18,7 +18,8 @@ use Rattle.demo_core.proofs.OneReport.{one_report}
 -- ---- reports
 
 -- a demonstration is reported by its line
-pub line_reports : (count : ℕ) (demonstration : Demonstration) (report : Report) → IsDemonstration count demonstration → IsReportOf reporting demonstration report
+pub line_reports : (count : ℕ) (demonstration : Demonstration) (report : Report) → IsDemonstration count demonstration
+    → IsReportOf reporting demonstration report
     → Reports reporting (IsDemonstration count) (Ok report)
 line_reports count demonstration report is h =
     reported_is reporting (IsDemonstration count) demonstration (Ok report) is h
@@ -51,7 +52,8 @@ module _ {S : Type 0} (count : ℕ) (state : S → SinkState) (out out_now : S) 
       }
   IsRun-delivered report reports (inr (five, risen, short)) once =
       let is = reports.reported in
-      let cut : IsCutShort (report_line is.0) (state out) (state out_now) = subst (λ (text : List ℕ). IsCutShort text (state out) (state out_now)) is.2.line short in
+      let cut : IsCutShort (report_line is.0) (state out) (state out_now) =
+      subst (λ (text : List ℕ). IsCutShort text (state out) (state out_now)) is.2.line short in
       record {
         bounded = inr (inl five);
         delivered = λ zero. absurd (omega (arith, zero, five));

@@ -42,7 +42,8 @@ first_unlinked a b w checked parents agree e h = record {
   after = h.after;
   are = h.are;
   linked = linked_chain a b w checked h.before
-      (admitted _ a b (λ q asked. agree q (subst (λ (all : List KeptCertificate). IsOfChain checked all q) (sym h.are) (chain_front checked h.before (h.parent ∷ h.after) q asked))))
+      (admitted _ a b (λ q asked.
+      agree q (subst (λ (all : List KeptCertificate). IsOfChain checked all q) (sym h.are) (chain_front checked h.before (h.parent ∷ h.after) q asked))))
       h.linked;
   broken = first_broken
       (link_rules a w (length h.before) h.parent (last_of checked h.before))
@@ -62,7 +63,8 @@ unlinked a b checks checked parents agree e h = record {
       e h.first;
 }
 
-pub chain_refused : (a b : Judge) (checks : ChainChecks) (checked : KeptCertificate) (parents : List KeptCertificate) (e : CertError) → Agree (IsOfChain checked parents) a b
+pub chain_refused : (a b : Judge) (checks : ChainChecks) (checked : KeptCertificate) (parents : List KeptCertificate) (e : CertError)
+    → Agree (IsOfChain checked parents) a b
     → IsFirstBroken (chain_rules a checks checked (Some parents)) e → IsFirstBroken (chain_rules b checks checked (Some parents)) e
 chain_refused a b checks checked parents e agree h =
     first_broken (chain_rules a checks checked (Some parents)) (chain_rules b checks checked (Some parents))

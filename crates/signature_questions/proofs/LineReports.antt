@@ -76,7 +76,8 @@ module _ (result : Result Report Stop) where
       (IsReport-lines program (OfSignature file) (octets ∷ []) (λ none. none) result (nothing_promised result)
       (reported_low (IsSignatureLine octets) (signature_low octets) result reports) reports)
 
-  pub chain_report : (certificates contents : List (List ℕ)) → Reports as_lines (IsChainLine contents) result → IsReport program (OfChain certificates) contents result
+  pub chain_report : (certificates contents : List (List ℕ)) → Reports as_lines (IsChainLine contents) result
+      → IsReport program (OfChain certificates) contents result
   chain_report certificates contents reports =
       IsReport-lines program (OfChain certificates) contents (λ none. none) result (nothing_promised result)
       (reported_low (IsChainLine contents) (chain_low contents) result reports) reports

@@ -31,7 +31,8 @@ module _ (row : VerdictRow) (rows : List VerdictRow) (s : SignatureDigests) wher
       )
 
   skipped : is_same_signature s row.signature ≡ false → first_verdict (row ∷ rows) s ≡ first_verdict rows s
-  skipped is = ap (λ (b : Bool). option_map (λ (r : VerdictRow). r.verdict) (cond b (Some row) (find (λ (r : VerdictRow). is_same_signature s r.signature) rows))) is
+  skipped is =
+      ap (λ (b : Bool). option_map (λ (r : VerdictRow). r.verdict) (cond b (Some row) (find (λ (r : VerdictRow). is_same_signature s r.signature) rows))) is
 
   other : is_same_signature s row.signature ≡ false → s ≡ row.signature → ⊥
   other is same = let e = sym is ∙ (is_same_signature-Decides s row.signature).1 same in absurd cc
@@ -57,7 +58,8 @@ found (row ∷ rows) s = by row rows s (is_same_signature s row.signature) refl 
 
 module _ (judge : Judge) (Asked : Question → Type 0) (IsDue : Verdict → Type 0) (rows : List VerdictRow) (are : AreRowsFor judge Asked IsDue rows) where
   -- the table has the scheme's verdict, or none, which isn't due then
-  decides : (q : Question) → Asked q → Found rows (digests_of q) → (verdict_on (verdict_of rows) q ≡ verdict_on judge q) ⊎ ((IsDue (verdict_on judge q) → ⊥) × (verdict_on (verdict_of rows) q ≡ Reject))
+  decides : (q : Question) → Asked q → Found rows (digests_of q)
+      → (verdict_on (verdict_of rows) q ≡ verdict_on judge q) ⊎ ((IsDue (verdict_on judge q) → ⊥) × (verdict_on (verdict_of rows) q ≡ Reject))
   decides q asked (inl (row, among, same, verdict)) =
       let there = are.of_questions row among in
       let one = same ∙ ap (λ (r : VerdictRow). r.signature) there.2 in
@@ -65,7 +67,8 @@ module _ (judge : Judge) (Asked : Question → Type 0) (IsDue : Verdict → Type
   decides q asked (inr (none, verdict)) =
       inr (λ due. none (row_of judge q) (are.due q asked due) refl, ap (λ (v : Option Verdict). unwrap_or v Reject) verdict)
 
-  pub decided : (q : Question) → Asked q → (verdict_on (verdict_of rows) q ≡ verdict_on judge q) ⊎ ((IsDue (verdict_on judge q) → ⊥) × (verdict_on (verdict_of rows) q ≡ Reject))
+  pub decided : (q : Question) → Asked q
+      → (verdict_on (verdict_of rows) q ≡ verdict_on judge q) ⊎ ((IsDue (verdict_on judge q) → ⊥) × (verdict_on (verdict_of rows) q ≡ Reject))
   decided q asked = decides q asked (found rows (digests_of q))
 
 rejected : (v w : Verdict) → (w ≢ Reject → ⊥) → v ≡ Reject → w ≡ v
@@ -79,13 +82,15 @@ rows_agree judge Asked rows are q asked = elim (decided judge Asked _ rows are q
   | inr none ↦ rejected (verdict_on (verdict_of rows) q) (verdict_on judge q) none.0 none.1
 ]
 
-pub accepted_rows_admit : (judge : Judge) (Asked : Question → Type 0) (rows : List VerdictRow) → AreAcceptedRowsOf judge Asked rows → Admits Asked judge (verdict_of rows)
+pub accepted_rows_admit : (judge : Judge) (Asked : Question → Type 0) (rows : List VerdictRow) → AreAcceptedRowsOf judge Asked rows
+    → Admits Asked judge (verdict_of rows)
 accepted_rows_admit judge Asked rows are q asked accepts = elim (decided judge Asked _ rows are q asked) [
   | inl same ↦ same ∙ accepts
   | inr none ↦ absurd (none.0 accepts)
 ]
 
-pub accepted_rows_are_admitted : (judge : Judge) (Asked : Question → Type 0) (rows : List VerdictRow) → AreAcceptedRowsOf judge Asked rows → Admits Asked (verdict_of rows) judge
+pub accepted_rows_are_admitted : (judge : Judge) (Asked : Question → Type 0) (rows : List VerdictRow) → AreAcceptedRowsOf judge Asked rows
+    → Admits Asked (verdict_of rows) judge
 accepted_rows_are_admitted judge Asked rows are q asked accepts = elim (decided judge Asked _ rows are q asked) [
   | inl same ↦ sym same ∙ accepts
   | inr none ↦ absurd (let e = sym accepts ∙ none.1 in cc)

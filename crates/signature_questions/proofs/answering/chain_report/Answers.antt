@@ -10,7 +10,8 @@ use Rattle.signature_questions.proofs.answering.chain_report.Goals as goal
 
 pub returns-in-Err : goal.returns-in-Err
 returns-in-Err c =
-    unread_reports (contents_held c.args.read.now) c.in-Err.error c.unread_report.result c.in-Err.ensures c.unread_report.ensures.refused c.unread_report.ensures.memory
+    unread_reports (contents_held c.args.read.now) c.in-Err.error c.unread_report.result c.in-Err.ensures c.unread_report.ensures.refused
+    c.unread_report.ensures.memory
 
 pub returns-in_err-chain_lines_of-in-Ok : goal.returns-in_err-chain_lines_of-in-Ok
 returns-in_err-chain_lines_of-in-Ok c =

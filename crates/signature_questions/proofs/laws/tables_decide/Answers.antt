@@ -11,7 +11,8 @@ returns-clause-agreed c = λ judge f rows are. rows_agree judge (IsQuestion f) r
 pub returns-clause-answer : goal.returns-clause-answer
 returns-clause-answer c = λ judge policy octets rows result are. (
   λ h. answered judge (verdict_of rows) policy octets result (λ f has. rows_agree judge (IsQuestion f) rows (are f has)) h,
-  λ h. answered (verdict_of rows) judge policy octets result (λ f has. turned (IsQuestion f) judge (verdict_of rows) (rows_agree judge (IsQuestion f) rows (are f has))) h,
+  λ h. answered (verdict_of rows) judge policy octets result
+      (λ f has. turned (IsQuestion f) judge (verdict_of rows) (rows_agree judge (IsQuestion f) rows (are f has))) h,
 )
 
 pub returns-clause-trusted : goal.returns-clause-trusted

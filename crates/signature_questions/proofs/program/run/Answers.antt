@@ -7,5 +7,6 @@ use Rattle.signature_questions.proofs.program.run.Goals as goal
 
 pub returns : goal.returns
 returns g c = record {
-  ends = c.run.ensures (map string_bytes c.args.words.now) (IsParsed-option program _ command_held c.command_of.result c.command_of.ensures.asked c.command_of.ensures.only);
+  ends = c.run.ensures (map string_bytes c.args.words.now)
+      (IsParsed-option program _ command_held c.command_of.result c.command_of.ensures.asked c.command_of.ensures.only);
 }

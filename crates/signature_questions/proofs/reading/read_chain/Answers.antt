@@ -14,7 +14,8 @@ returns-in_err-checked c =
 pub returns-in_err-parents : goal.returns-in_err-parents
 returns-in_err-parents c =
     let p = err_from_is_err_and c.from_residual-in_err-parents.result c.from_residual-in_err-parents.ensures.1 in
-    let unread = subst (λ (vs : List (Vec ℕ Global)). IsFirstUnread (map (λ (v : Vec ℕ Global). v.items) vs) c.in_err-parents.field-0.0) c.deref-2.ensures.value c.in_err-parents.ensures in
+    let unread = subst (λ (vs : List (Vec ℕ Global)). IsFirstUnread (map (λ (v : Vec ℕ Global). v.items) vs) c.in_err-parents.field-0.0)
+    c.deref-2.ensures.value c.in_err-parents.ensures in
     rw (p.1, p.2) (parent_unread c.args.read.now.first.items (map (λ (v : Vec ℕ Global). v.items) c.args.read.now.others.items)
     c.in_ok-checked.checked (c.in_ok-checked.ensures.kept ∙ c.deref.ensures.value) c.in_err-parents.field-0.0 unread)
 

@@ -14,6 +14,10 @@ returns-then-certificates-gt-MOST_CERTIFICATES c = λ limits.
 
 pub returns : goal.returns
 returns c = (
-  ap OfChain (sym (words_are string_bytes c.args.certificates.now c.checked-item.result c.as_str.result.now c.in-len1-up.len_at_least c.checked-item.is (sym c.as_str.ensures.value))),
-  (omega (arith, length-map c.args.certificates.now string_bytes, c.in-len1-up.len_at_least), omega (arith, length-map c.args.certificates.now string_bytes, c.if-certificates-gt-MOST_CERTIFICATES.false)),
+  ap OfChain (sym (words_are string_bytes c.args.certificates.now c.checked-item.result c.as_str.result.now c.in-len1-up.len_at_least c.checked-item.is
+      (sym c.as_str.ensures.value))),
+  (
+    omega (arith, length-map c.args.certificates.now string_bytes, c.in-len1-up.len_at_least),
+    omega (arith, length-map c.args.certificates.now string_bytes, c.if-certificates-gt-MOST_CERTIFICATES.false),
+  ),
 )

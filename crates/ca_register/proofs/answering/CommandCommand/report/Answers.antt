@@ -11,7 +11,8 @@ returns c =
     let text = c.deref.ensures.value in
     let lines = c.deref-2.ensures.value in
     let is_text = subst (λ (ls : List RegisterLine). IsRegisterText c.deref.result.now (map line_held ls)) (sym lines) c.in_ok-lines.ensures.read in
-    text_report (command_held c.args.self.now) c.args.read.now.first.items (map (λ (v : Vec ℕ Global). v.items) c.args.read.now.others.items) (map line_held c.deref-2.result.now)
+    text_report (command_held c.args.self.now) c.args.read.now.first.items (map (λ (v : Vec ℕ Global). v.items) c.args.read.now.others.items)
+    (map line_held c.deref-2.result.now)
     (subst (λ (t : List ℕ). IsRegisterText t (map line_held c.deref-2.result.now)) text is_text)
     (λ other is. ap (map line_held) lines ∙ c.in_ok-lines.ensures.only other (subst (λ (t : List ℕ). IsRegisterText t other) (sym text) is))
     c.report_lines.result c.report_lines.ensures.answer c.report_lines.ensures.counted

@@ -8,7 +8,8 @@ use Rattle.signature_questions.proofs.answering.CommandCommand.report.Goals as g
 pub returns-in-Signature : goal.returns-in-Signature
 returns-in-Signature c =
     rw c.in-Signature.is
-    (signature_report c.signature_report.result (λ (v : Vec ℕ Global). v.items) c.in-Signature.field-0.now c.args.read.now.first.items c.args.read.now.others.items
+    (signature_report c.signature_report.result (λ (v : Vec ℕ Global). v.items)
+    c.in-Signature.field-0.now c.args.read.now.first.items c.args.read.now.others.items
     (rw c.in-Signature.is at c.requires)
     (subst (λ (octets : List ℕ). Reports as_lines (IsSignatureLine octets) c.signature_report.result) c.deref.ensures.value c.signature_report.ensures))
 
