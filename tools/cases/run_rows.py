@@ -90,7 +90,7 @@ CHAIN, EXCUSED, HASH = file(S, I), file(S, I, T), FILE_HASH.hex()
 
 
 def commands():
-    """One for each job of each program."""
+    """One for each command of each program."""
     yield of_signature(("basic", "s", "t", HASH), FirstPath, "accepted signer=0 path= excuse=none")
     yield of_signature(("check", "s", "t", HASH, DAY), CHAIN, "accepted signer=0 path=1 excuse=none")
     yield of_signature(("check", "s", "t", HASH, LATER), EXCUSED, "accepted signer=0 path=1 excuse=bag", {})

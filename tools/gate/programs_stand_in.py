@@ -107,8 +107,8 @@ class StandIn(Programs):
         return question_judge.of_file(Path(first).read_bytes())
 
     @staticmethod
-    def picky(job, *words):
-        if job == "chain":
+    def picky(command, *words):
+        if command == "chain":
             table, date, *files = words
             rows = verdicts(Path(table).read_text("ascii"))
             return chain_reader.line([Path(file).read_bytes() for file in files], digits_of(date), rows)[1].rstrip("\n")

@@ -12,7 +12,7 @@ to answer as the first one did.  It prints a line for each row, and its exit
 status is 1 where a run answers something else.
 
 The rows are the commands of `run_rows`, and for `picky` also those of
-`run_program`, one for each job, status and line.  What refuses memory is a
+`run_program`, one for each command, status and line.  What refuses memory is a
 library in C between the program and the system's `malloc` and `realloc`; it is
 compiled by `cc`, as system libraries for Linux are.
 """
@@ -70,7 +70,7 @@ __attribute__((destructor)) static void count(void) {
 
 
 def rows(name):
-    """Rows of a program whose report goes to standard output, one for each job and answer."""
+    """Rows of a program whose report goes to standard output, one for each command and answer."""
     if name == "picky":
         wanted = {}
         for row in run_program.ROWS:

@@ -1,36 +1,39 @@
 -- There is one answer for the lines of a register, and a report of it is the only one.
-use Rattle.std.proofs.Common.{◌≡◌, ◌⊎◌, ℕ, ◌+◌, List, [], ◌∷◌, length, Result, Ok, Err, IfOk, inl, inr, refl, sym, ap, subst, ◌∙◌, arith}
+use Rattle.std.proofs.Common.{◌≡◌, ℕ, ◌≤◌, List, [], ◌∷◌, length, Result, Ok, Err, IfOk, inl, inr, refl, sym, ap, subst, ◌∙◌, arith}
 use Rattle.std.proofs.Math.Logic.{∥∥₁_map}
 use Rattle.std.specs.Prelude.{string_bytes}
 use Rattle.std.proofs.lemmas.List.{length-map}
 use Rattle.std.proofs.lemmas.List.Sums.{sum_by-cons}
-use Rattle.der_core.specs.Counts.{HasRisen}
 use Rattle.asn1_types.specs.declared.generalized_time.GeneralizedTime.{GeneralizedTime}
+use Rattle.sig_core.specs.DemoScheme.{demo_verdict}
+use Rattle.x509_core.specs.KeptCertificate.{KeptCertificate}
 use Rattle.program_frame.specs.declared.report.Report.{Report}
 use Rattle.program_frame.specs.declared.stop.Stop.{Stop}
 use Rattle.program_frame.specs.declared.stop.Stop.TheVariants as stop
-use Rattle.program_frame.specs.Ending.{Ends}
-use Rattle.program_frame.specs.Limits.{IsWholeFile}
-use Rattle.program_frame.specs.ReadFiles.{AreRead, HandsOut, total_length}
+use Rattle.program_frame.specs.Answering.{GivesLine, GivesStop, IsReport, StopsForText}
+use Rattle.program_frame.specs.Commands.{Line as ReportLine}
+use Rattle.program_frame.specs.Limits.{AreWholeFiles, IsWholeFile}
+use Rattle.program_frame.specs.ReadFiles.{HandsOut, total_length}
+use Rattle.program_frame.specs.Reports.{IsReportOf, Reports}
+use Rattle.program_frame.specs.Run.{IsRun}
 use Rattle.program_frame.specs.Shelf.{ShelfState}
-use Rattle.program_frame.specs.Sink.{Appends, IsCutShort, SinkState}
-use Rattle.ca_register.specs.Lines.{IsRegisterText, Line}
-use Rattle.sig_core.specs.DemoScheme.{demo_verdict}
-use Rattle.x509_core.specs.KeptCertificate.{KeptCertificate}
-use Rattle.ca_register.specs.Answer.{IsAnswerTo}
+use Rattle.program_frame.specs.Sink.{SinkState}
+use Rattle.program_frame.proofs.Reporting.{gives_line}
+use Rattle.ca_register.specs.Answer.{IsAnswerLine, IsAnswerTo, reporting, status_of, text_in}
 use Rattle.ca_register.specs.Authorities.{IsRegister}
-use Rattle.der_core.specs.Counting.{IsCount}
+use Rattle.ca_register.specs.Commands.{program}
 use Rattle.ca_register.specs.Counting.{IsAcceptedAt, IsUsableAt}
 use Rattle.ca_register.specs.Filling.{IsFilled}
-use Rattle.ca_register.specs.Inquiry.{IsReportOf, IsReported, Reports}
 use Rattle.ca_register.specs.LineEntries.{IsFirstRefused, entries_of, entry_of}
-use Rattle.ca_register.specs.Reported.{AreIssued, IsCountFor, IsCountLine, IsReportedCount}
-use Rattle.ca_register.specs.Words.{AsksFor, Job}
+use Rattle.ca_register.specs.Lines.{HasBadLine, IsRegisterText, Line}
+use Rattle.ca_register.specs.Reported.{AreIssued, IsCountLine, IsReportedCount}
+use Rattle.ca_register.specs.Words.{Command}
 use Rattle.ca_register.specs.declared.entry.Entry.{Entry}
 use Rattle.ca_register.specs.declared.error.IssueError.{IssueError}
 use Rattle.ca_register.specs.declared.error.IssueError.TheVariants as errors
 use Rattle.ca_register.specs.declared.report.Answer.{Answer}
 use Rattle.ca_register.specs.declared.report.Answer.TheVariants.{Counted, NoIssuer, NotCa, TooDeep}
+use Rattle.der_core.specs.Counting.{IsCount}
 use Rattle.der_core.proofs.Counting.{count_once}
 use Rattle.ca_register.proofs.FirstRefusals.{none_refused, one_refusal}
 
@@ -72,12 +75,12 @@ module _ (date : GeneralizedTime) (lines : List Line) where
 
   -- ---- reports
 
-  pub answer_reports : (answer : Answer) (report : Report) → IsAnswerTo date lines answer → IsReportOf answer report
-      → Reports (IsAnswerTo date lines) (Ok report)
+  pub answer_reports : (answer : Answer) (report : Report) → IsAnswerTo date lines answer → IsReportOf reporting answer report
+      → Reports reporting (IsAnswerTo date lines) (Ok report)
   answer_reports answer report is h = record {
     reported = (answer, is, h);
     stopped = tt;
-    only = λ other also. subst (λ (a : Answer). IsReportOf a report) (one_answer answer other is also) h;
+    only = λ other also reportable. subst (λ (a : Answer). IsReportOf reporting a report) (one_answer answer other is also) h;
   }
 
 -- ---- what was issued
@@ -103,47 +106,98 @@ issued_count date lines entries certificates filled kept len number issued accep
           (subst (λ (n : ℕ). IsCount (IsAcceptedAt demo_verdict entries certificates date) n accepted) many counted);
     })
 
--- ---- the file
+-- ---- the report on a text
 
-module _ (shelf shelf_now : ShelfState) (words : List (List ℕ)) (job : Job) (asked : AsksFor words job) (text : List ℕ)
-    (file : IsWholeFile shelf.files job.file text) (given : HandsOut (length text) shelf shelf_now) where
-  pub counts_for : (result : Result Report Stop)
-      → IfOk result (λ report. report.status ≡ 0 → (lines : List Line) × IsRegisterText text lines × IsCountLine job.date lines (string_bytes report.line))
-      → IfOk result (λ report. report.status ≡ 0 → IsCountFor words shelf shelf_now (string_bytes report.line))
-  counts_for (Ok report) h = λ zero.
-      let of = h zero in
-      record { job = job; asked = asked; text = text; file = file; handed_out = given; lines = of.0; is_text = of.1; counted = of.2 }
-  counts_for (Err s) h = tt
+low_status : (answer : Answer) → status_of answer ≤ 1
+low_status (Counted issued accepted) = omega arith
+low_status NoIssuer = omega arith
+low_status NotCa = omega arith
+low_status TooDeep = omega arith
 
--- the file alone
-pub read_alone : (shelf shelf_now : ShelfState) (name text : List ℕ) → IsWholeFile shelf.files name text → HandsOut (length text) shelf shelf_now
-    → AreRead shelf shelf_now (name ∷ []) (text ∷ [])
-read_alone shelf shelf_now name text whole given = record {
-  are_files = (whole, tt);
-  given = subst (λ (n : ℕ). HandsOut n shelf shelf_now) (sym (sum_by-cons (λ (o : List ℕ). length o) text [] ∙ add-zero)) given;
-}
-  where
-    add-zero : length text + total_length [] ≡ length text
-    add-zero = omega arith
+stops_for_text : (HasBad : Type 0) (s : Stop) → StopsForText HasBad s → GivesStop stop.BadTable (Err s)
+stops_for_text HasBad stop.BadTable bad = inl refl
+stops_for_text HasBad stop.Memory bad = inr refl
+stops_for_text HasBad stop.Usage bad = absurd bad
+stops_for_text HasBad stop.Shelf bad = absurd bad
+stops_for_text HasBad stop.TooLong bad = absurd bad
 
--- ---- what is delivered
+module _ (command : Command) (text : List ℕ) (others : List (List ℕ)) where
+  -- if the lines aren't read
+  pub unread_report : (s : Stop) → StopsForText (HasBadLine text) s → ((lines : List Line) → IsRegisterText text lines → s ≡ stop.Memory)
+      → IsReport program command (text ∷ others) (Err s)
+  unread_report s stopped only = record {
+    reported = tt;
+    promised = tt;
+    low = tt;
+    stopped = stopped;
+    only = λ line is. only is.lines is.is_text;
+    bad = λ bad. stops_for_text (HasBadLine text) s stopped;
+  }
 
-module _ (words : List (List ℕ)) (shelf shelf_now : ShelfState) (report : Report)
-    (counted : report.status ≡ 0 → IsCountFor words shelf shelf_now (string_bytes report.line)) (out out_now : SinkState) where
-  delivered_count : (status : ℕ) → status ≡ 0 → ((status ≡ report.status) × Appends out.held (string_bytes report.line) out_now.held)
-      ⊎ ((status ≡ 5) × HasRisen out.faults out_now.faults × IsCutShort (string_bytes report.line) out out_now)
-      → IsReportedCount words shelf shelf_now out.held out_now.held
-  delivered_count status zero (inl h) = record { line = string_bytes report.line; count = counted (sym h.0 ∙ zero); written = h.1 }
-  delivered_count status zero (inr h) = absurd (omega (arith, zero, h.0))
+  -- if they are read
+  module _ (lines : List Line) (is_text : IsRegisterText text lines) (only : (other : List Line) → IsRegisterText text other → lines ≡ other) where
+    each_line : (result : Result Report Stop) → Reports reporting (IsAnswerTo command.date lines) result
+        → (line : ReportLine) → IsAnswerLine command.date text line → GivesLine line result
+    each_line result reports line is =
+        let answers = subst (λ (ls : List Line). IsAnswerTo command.date ls is.answer) (sym (only is.lines is.is_text)) is.is_answer in
+        gives_line reporting is.answer line result is.line_is (reports.only is.answer answers (λ none. none))
 
--- the same of a run's end
-pub ended_count : (words : List (List ℕ)) (shelf shelf_now : ShelfState) (result : Result Report Stop)
-    → IfOk result (λ report. report.status ≡ 0 → IsCountFor words shelf shelf_now (string_bytes report.line)) → (out out_now : SinkState)
-    → (status : ℕ) → status ≡ 0 → Ends result out out_now status → IsReportedCount words shelf shelf_now out.held out_now.held
-ended_count words shelf shelf_now (Ok report) counted out out_now status zero ends =
-    delivered_count words shelf shelf_now report counted out out_now status zero ends
-ended_count words shelf shelf_now (Err stop.Usage) counted out out_now status zero ends = absurd (omega (arith, zero, ends.0))
-ended_count words shelf shelf_now (Err stop.BadTable) counted out out_now status zero ends = absurd (omega (arith, zero, ends.0))
-ended_count words shelf shelf_now (Err stop.Shelf) counted out out_now status zero ends = absurd (omega (arith, zero, ends.0))
-ended_count words shelf shelf_now (Err stop.TooLong) counted out out_now status zero ends = absurd (omega (arith, zero, ends.0))
-ended_count words shelf shelf_now (Err stop.Memory) counted out out_now status zero ends = absurd (omega (arith, zero, ends.0))
+    pub text_report : (result : Result Report Stop) → Reports reporting (IsAnswerTo command.date lines) result
+        → IfOk result (λ report. report.status ≡ 0 → IsCountLine command.date lines (string_bytes report.line))
+        → IsReport program command (text ∷ others) result
+    text_report (Ok report) reports counted =
+        let is = reports.reported in
+        record {
+          reported = record {
+            lines = lines;
+            is_text = is_text;
+            answer = is.0;
+            is_answer = is.1;
+            line_is = gives_line reporting is.0 (reporting.line_of is.0) (Ok report) refl is.2;
+          };
+          promised = λ zero. record { lines = lines; is_text = is_text; counted = counted zero };
+          low = omega (arith, is.2.status, low_status is.0);
+          stopped = tt;
+          only = each_line (Ok report) reports;
+          bad = λ bad. absurd (bad lines is_text);
+        }
+    text_report (Err s) reports counted = record {
+      reported = tt;
+      promised = tt;
+      low = tt;
+      stopped = subst (StopsForText (HasBadLine text)) (sym reports.stopped) tt;
+      only = each_line (Err s) reports;
+      bad = λ bad. absurd (bad lines is_text);
+    }
+
+-- ---- an acceptance
+
+-- the only file
+only_file : (shelf shelf_now : ShelfState) (name : List ℕ) (contents : List (List ℕ)) → AreWholeFiles shelf.files (name ∷ []) contents
+    → HandsOut (total_length contents) shelf shelf_now → IsWholeFile shelf.files name (text_in contents) × HandsOut (length (text_in contents)) shelf shelf_now
+only_file shelf shelf_now name [] whole given = absurd whole
+only_file shelf shelf_now name (text ∷ []) whole given =
+    let total = sum_by-cons (λ (o : List ℕ). length o) text [] in
+    (whole.0, subst (λ (n : ℕ). HandsOut n shelf shelf_now) (omega (arith, total)) given)
+only_file shelf shelf_now name (text ∷ more ∷ contents) whole given = absurd whole.1
+
+module _ {S : Type 0} (words : List (List ℕ)) (state : S → ShelfState) (shelf shelf_now : S) (out out_now : SinkState) where
+  pub reported_count : (status : ℕ) → status ≡ 0 → IsRun program words state shelf shelf_now out out_now status
+      → IsReportedCount words (state shelf) (state shelf_now) out.held out_now.held
+  reported_count status zero run =
+      let delivered = run.reported (omega (arith, zero)) in
+      let read = delivered.is_answer.2 in
+      let answered = read.is_answered in
+      let file = only_file (state shelf) (state shelf_now) delivered.is_answer.0.file answered.contents answered.are_files read.given in
+      record {
+        line = delivered.line.text;
+        count = record {
+          command = delivered.is_answer.0;
+          asked = delivered.is_answer.1;
+          text = text_in answered.contents;
+          file = file.0;
+          handed_out = file.1;
+          count = read.promised (delivered.is_status ∙ zero);
+        };
+        written = delivered.has_line;
+      }

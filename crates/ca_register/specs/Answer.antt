@@ -1,15 +1,14 @@
--- The answer for the lines of a register, and the line that reports it; the program.
+-- The answer for the lines of a register, and the line that reports it.
 use Rattle.std.specs.Prelude.{◌≡◌, ℕ, List, [], ◌∷◌, ◌++◌, length, codes, decimal}
 use Rattle.asn1_types.specs.declared.generalized_time.GeneralizedTime.{GeneralizedTime}
 use Rattle.sig_core.specs.VerdictTable.{newline}
-use Rattle.program_frame.specs.Question.{Line as ReportLine, Question}
-use Rattle.program_frame.specs.Run.{Program}
+use Rattle.program_frame.specs.Commands.{Line as ReportLine}
+use Rattle.program_frame.specs.Reports.{Reporting}
 use Rattle.program_frame.specs.Statuses as statuses
-use Rattle.ca_register.specs.Lines.{HasBadLine, IsRegisterText, Line}
+use Rattle.ca_register.specs.Lines.{IsRegisterText, Line}
 use Rattle.der_core.specs.Counting.{IsCount}
 use Rattle.ca_register.specs.Counting.{IsUsableAt}
 use Rattle.ca_register.specs.LineEntries.{AreIssuable, IsFirstRefused, entries_of}
-use Rattle.ca_register.specs.Words.{AsksFor, Job}
 use Rattle.ca_register.specs.declared.error.IssueError.{IssueError}
 use Rattle.ca_register.specs.declared.error.IssueError.TheVariants as errors
 use Rattle.ca_register.specs.declared.report.Answer.{Answer}
@@ -61,6 +60,13 @@ status_of NoIssuer = statuses.refused
 status_of NotCa = statuses.refused
 status_of TooDeep = statuses.refused
 
+-- how answers are reported; none of them is out of memory
+abbrev pub reporting : Reporting Answer
+reporting = record {
+  IsOutOfMemory = λ answer. ⊥;
+  line_of = λ answer. record { status = status_of answer; text = report_line answer };
+}
+
 -- ---- the file
 
 -- the text of the register, the only file
@@ -68,23 +74,10 @@ abbrev pub text_in : List (List ℕ) → List ℕ
 text_in (text ∷ others) = text
 text_in [] = []
 
--- The line reports the answer to a job for the contents of its file.
-pub record IsAnswerLine (job : Job) (contents : List (List ℕ)) (line : ReportLine) : Type 0 where
+-- The line reports the answer for the text of a register at a date.
+pub record IsAnswerLine (date : GeneralizedTime) (text : List ℕ) (line : ReportLine) : Type 0 where
   pub lines : List Line
-  pub is_text : IsRegisterText (text_in contents) lines
+  pub is_text : IsRegisterText text lines
   pub answer : Answer
-  pub is_answer : IsAnswerTo job.date lines answer
-  pub status : line.status ≡ status_of answer
-  pub text : line.text ≡ report_line answer
-
--- a job, as a question about its file
-abbrev pub question_of : Job → Question
-question_of job = record {
-  files = job.file ∷ [];
-  HasBadLine = λ contents. HasBadLine (text_in contents);
-  IsAnswer = IsAnswerLine job;
-}
-
--- the program
-abbrev pub command : Program Job
-command = record { AsksFor = AsksFor; question_of = question_of }
+  pub is_answer : IsAnswerTo date lines answer
+  pub line_is : line ≡ reporting.line_of answer

@@ -13,12 +13,12 @@ pub mod LineCertificates
 pub mod LineEntries
 pub mod Counting
 pub mod Answer
-pub mod Run
 pub mod Reported
+pub mod Commands
 -- Rules, which the promises rest on.
 pub mod Above
 -- Inside, which no public contract cites.
 pub mod Filling
-pub mod Inquiry
+pub mod HeldCommand
 pub mod Lines
 pub mod Held

@@ -4,17 +4,13 @@ use Rattle.asn1_types.specs.declared.generalized_time.GeneralizedTime.{Generaliz
 use Rattle.program_frame.specs.DateWord.{IsDateWord}
 
 -- how many certificates of a register are accepted at a date
-pub record Job : Type 0 where
+pub record Command : Type 0 where
   -- the file FILE, the text of the register
   pub file : List ℕ
   pub date : GeneralizedTime
 
 -- FILE DATE
-pub record AsksFor (words : List (List ℕ)) (job : Job) : Type 0 where
+pub record AsksFor (words : List (List ℕ)) (command : Command) : Type 0 where
   pub date_word : List ℕ
-  pub words_are : words ≡ job.file ∷ date_word ∷ []
-  pub date_is : IsDateWord date_word job.date
-
--- the words are no command
-abbrev pub AsksForNothing : List (List ℕ) → Type 0
-AsksForNothing words = (job : Job) → AsksFor words job → ⊥
+  pub words_are : words ≡ command.file ∷ date_word ∷ []
+  pub date_is : IsDateWord date_word command.date

@@ -3,14 +3,14 @@
 #![tactic(auto)]
 
 mod ancestors;
+mod answering;
+mod command;
 mod counting;
 mod depth;
 mod entry;
 mod error;
 mod filling;
-mod inquiry;
 mod issuing;
-mod job;
 mod keys;
 mod program;
 mod register;

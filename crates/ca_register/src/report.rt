@@ -1,8 +1,8 @@
 //! The line that a run reports, and its status.
 
 ghost use Rattle.std.specs.Prelude.{◌≡◌, IfOk, string_bytes};
-ghost use Rattle.ca_register.specs.Answer.{count_line, issued_text};
-ghost use Rattle.ca_register.specs.Inquiry.{IsReportOf};
+ghost use Rattle.program_frame.specs.Reports.{IsReportOf};
+ghost use Rattle.ca_register.specs.Answer.{count_line, issued_text, reporting};
 
 use program_frame::{ACCEPTED, REFUSED, Report};
 use std::alloc::{AllocError, Global};
@@ -22,7 +22,7 @@ pub(crate) enum Answer {
 
 /// The report of an answer.
 pub(crate) fn report_of(alloc: Global, answer: Answer) -> Result<Report, AllocError>
-    ensures { IfOk result (IsReportOf answer) }
+    ensures { IfOk result (IsReportOf reporting answer) }
 {
     match answer {
         Answer::Counted { issued, accepted } => Ok(Report {

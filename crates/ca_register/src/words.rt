@@ -1,24 +1,26 @@
 //! The words of the command line.
 
 ghost use Rattle.std.specs.Prelude.{◌≡◌, MatchOption, Some, map, option_map, string_bytes};
-ghost use Rattle.ca_register.specs.Inquiry.{job_held};
-ghost use Rattle.ca_register.specs.Words.{AsksFor, AsksForNothing, Job as AskedJob};
+ghost use Rattle.program_frame.specs.Commands.{AsksForNothing};
+ghost use Rattle.ca_register.specs.Commands.{program};
+ghost use Rattle.ca_register.specs.HeldCommand.{command_held};
+ghost use Rattle.ca_register.specs.Words.{AsksFor, Command as AskedCommand};
 
-use crate::job::Job;
+use crate::command::Command;
 use program_frame::date_of;
 
 /// Parses the words. None exactly if they are no command.
-pub(crate) fn job_of(words: &[String]) -> Option<Job<'_>>
+pub(crate) fn command_of(words: &[String]) -> Option<Command<'_>>
     ensures asked { MatchOption result
-        (AsksForNothing (map string_bytes words.now))
-        (λ held. AsksFor (map string_bytes words.now) (job_held held)) }
-    ensures only { (asked : AskedJob) → AsksFor (map string_bytes words.now) asked
-        → option_map job_held result ≡ Some asked }
+        (AsksForNothing program (map string_bytes words.now))
+        (λ held. AsksFor (map string_bytes words.now) (command_held held)) }
+    ensures only { (command : AskedCommand) → AsksFor (map string_bytes words.now) command
+        → option_map command_held result ≡ Some command }
 {
     let [file, date] = words else {
         return None;
     };
-    Some(Job {
+    Some(Command {
         file: file.as_str(),
         date: date_of(date.as_str())?,
     })

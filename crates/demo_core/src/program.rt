@@ -1,11 +1,9 @@
 //! A run of a demonstration: its line, and its exit status.
 
-ghost use Rattle.std.specs.Prelude.{◌≡◌, string_bytes, IfOk, MatchResult};
-ghost use Rattle.der_core.specs.Counts.{FailsOnce};
-ghost use Rattle.program_frame.specs.Statuses as statuses;
-ghost use Rattle.program_frame.specs.declared.stop.Stop.TheVariants as stops;
-ghost use Rattle.demo_core.specs.Demonstration.{report_line};
-ghost use Rattle.demo_core.specs.Run.{IsReportOf, IsRun};
+ghost use Rattle.std.specs.Prelude.{◌≡◌, string_bytes, IfOk};
+ghost use Rattle.program_frame.specs.Reports.{Reports};
+ghost use Rattle.demo_core.specs.Demonstration.{IsDemonstration, report_line};
+ghost use Rattle.demo_core.specs.Run.{IsRun, reporting};
 
 use crate::demonstration::{Demonstration, demonstrate};
 use program_frame::{ACCEPTED, Report, Sink, Stop, deliver};
@@ -14,13 +12,8 @@ use std::alloc::{AllocError, Global};
 /// Demonstrates so many steps: writes the line of the report to the sink, and returns the exit
 /// status.
 pub fn run<O: Sink>(alloc: Global, count: u8, out: &mut O) -> u8
-    // What each status means; there are three.
-    ensures ends { IsRun count (O.state out.old) (O.state out.new) result }
-    // If memory runs out, the sink isn't touched.
-    ensures unwritten { result ≡ statuses.out_of_memory → out.new ≡ out.old }
-    // A failed call of the sink is the last one, and the status reports it.
-    ensures sink_once { FailsOnce (result ≡ statuses.sink_failed) (O.state out.old).faults
-        (O.state out.new).faults }
+    // What each status means, of which there are three, and what is written.
+    ensures { IsRun count O.state out.old out.new result }
 {
     match report_of(alloc, count) {
         Ok(report) => deliver(out, &report),
@@ -30,7 +23,7 @@ pub fn run<O: Sink>(alloc: Global, count: u8, out: &mut O) -> u8
 
 /// The report of a demonstration of so many steps. Only out of memory is an error.
 fn report_of(alloc: Global, count: u8) -> Result<Report, Stop>
-    ensures { MatchResult result (IsReportOf count) (λ stop. stop ≡ stops.Memory) }
+    ensures { Reports reporting (IsDemonstration count) result }
 {
     match demonstrate(alloc, count) {
         Ok(demonstration) => Ok(Report {

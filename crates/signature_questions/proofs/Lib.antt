@@ -14,7 +14,6 @@ pub mod Walk
 pub mod ReadCertificates
 pub mod AskedWords
 pub mod OneList
-pub mod Reported
 pub mod WrittenLines
 pub mod ReadCauses
 pub mod OneLine

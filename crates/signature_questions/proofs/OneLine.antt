@@ -1,7 +1,7 @@
 -- There is one line to report about files.
 use Rattle.std.proofs.Common.{◌≡◌, ℕ, List, ◌∷◌, false, inl, inr, sym, ap, subst, ◌∙◌}
 use Rattle.cms_types.specs.SignedDataElements.{SignedDataElements}
-use Rattle.program_frame.specs.Question.{Line}
+use Rattle.program_frame.specs.Commands.{Line}
 use Rattle.x509_core.specs.KeptCertificate.{KeptCertificate}
 use Rattle.authenticode_core.specs.Basic.{HasSignedData, RefusesValue}
 use Rattle.authenticode_core.specs.Policy.{first_policy}

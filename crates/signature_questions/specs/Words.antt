@@ -1,15 +1,15 @@
 -- The words of the command line.
 use Rattle.std.specs.Prelude.{◌≡◌, ◌≢◌, ◌≤◌, ℕ, List, [], ◌∷◌, length, codes}
 
--- what is asked for
-pub data Job : Type 0 where
+-- a command
+pub data Command : Type 0 where
   -- the questions about the file SIG
-  OfSignature : (file : List ℕ) → Job
+  OfSignature : (file : List ℕ) → Command
   -- the questions about the files CERT as a chain, the first of them with the others as its parents
-  OfChain : (certificates : List (List ℕ)) → Job
+  OfChain : (certificates : List (List ℕ)) → Command
 
 -- the names of its files, in the order of reading
-abbrev pub files_of : Job → List (List ℕ)
+abbrev pub files_of : Command → List (List ℕ)
 files_of (OfSignature file) = file ∷ []
 files_of (OfChain certificates) = certificates
 
@@ -31,11 +31,7 @@ pub record IsChain (words certificates : List (List ℕ)) : Type 0 where
   pub words_are : words ≡ chain_word ∷ certificates
   pub limits : AreInLimits certificates
 
--- the words request this job
-abbrev pub AsksFor : List (List ℕ) → Job → Type 0
+-- the words request this command
+abbrev pub AsksFor : List (List ℕ) → Command → Type 0
 AsksFor words (OfSignature file) = IsSignature words file
 AsksFor words (OfChain certificates) = IsChain words certificates
-
--- the words request nothing
-abbrev pub AsksForNothing : List (List ℕ) → Type 0
-AsksForNothing words = (job : Job) → AsksFor words job → ⊥

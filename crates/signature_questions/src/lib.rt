@@ -3,9 +3,10 @@
 //! which prints them.
 #![tactic(auto)]
 
+mod answering;
 mod borrowed_key;
 mod chain_questions;
-mod inquiry;
+mod command;
 mod laws;
 mod lines;
 mod links;
@@ -19,6 +20,6 @@ mod words;
 pub use chain_questions::ChainQuestions;
 pub use laws::{questions_are_listed, questions_decide, questions_decide_chains, tables_decide};
 pub use message::Message;
-pub use program::run;
+pub use program::{Commands, run};
 pub use question::Question;
 pub use questions::{Questions, questions_of};

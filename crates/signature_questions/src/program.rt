@@ -1,15 +1,12 @@
-//! A run of the program: words, files, lines, and exit status.
+//! A run of the program.
 
-ghost use Rattle.std.specs.Prelude.{◌≡◌, length, map, string_bytes};
-ghost use Rattle.der_core.specs.Counts.{FailsOnce};
-ghost use Rattle.program_frame.specs.ReadFiles.{HandsOutAtMost};
-ghost use Rattle.program_frame.specs.Statuses as statuses;
-ghost use Rattle.signature_questions.specs.Commands.{IsRun};
-ghost use Rattle.signature_questions.specs.Words.{AsksFor, AsksForNothing, Job, files_of};
+ghost use Rattle.std.specs.Prelude.{⊤, map, string_bytes};
+ghost use Rattle.program_frame.specs.Run.{IsRun};
+ghost use Rattle.signature_questions.specs.Commands.{program};
+ghost use Rattle.signature_questions.specs.Words.{Command};
 
-use crate::inquiry::answer;
-use crate::words::job_of;
-use program_frame::{Shelf, Sink, USAGE, finish};
+use crate::words::command_of;
+use program_frame::{Program, Shelf, Sink};
 use std::alloc::Global;
 
 /// Writes the questions about a signature file, or about files with certificates as a chain, a line
@@ -17,23 +14,32 @@ use std::alloc::Global;
 /// `program_frame`. Octets that are no signature file, or no certificate, are refused by a line
 /// with the cause.
 pub fn run<F: Shelf, O: Sink>(alloc: Global, words: &[String], shelf: &mut F, out: &mut O) -> u8
-    // Nothing is read if the words aren't these.
-    ensures unread { AsksForNothing (map string_bytes words.now) → shelf.new ≡ shelf.old }
-    // Whatever the status, no more is read than one octet more than the longest file for each file
-    // that the words name.
-    ensures at_most { (job : Job) → AsksFor (map string_bytes words.now) job
-        → HandsOutAtMost (length (files_of job)) (F.state shelf.old) (F.state shelf.new) }
-    // A failed call of the shelf or of the sink is the last one, and the status reports it.
-    ensures shelf_once { FailsOnce (result ≡ statuses.shelf_failed) (F.state shelf.old).faults
-        (F.state shelf.new).faults }
-    ensures sink_once { FailsOnce (result ≡ statuses.sink_failed) (O.state out.old).faults
-        (O.state out.new).faults }
-    // What each status means, and when it is returned.
-    ensures ends { IsRun (map string_bytes words.now) (F.state shelf.old) (F.state shelf.new)
+    // What each status means, when it is returned, and what is read and written.
+    ensures ends { IsRun program (map string_bytes words.now) F.state shelf.old shelf.new
         (O.state out.old) (O.state out.new) result }
 {
-    match job_of(words) {
-        Some(job) => finish(out, answer(alloc, shelf, &job)),
-        None => USAGE,
+    program_frame::run(alloc, &Ok(command_of(words)), shelf, out)
+}
+
+/// The program `picky_ask`.
+#[derive(Clone, Copy, Debug)]
+pub struct Commands;
+
+impl Program for Commands {
+    ghost Asked = { Command };
+
+    ghost program = { program };
+
+    // nothing but what each status means
+    ghost Acceptance = { λ words shelf shelf_now held held_now. ⊤ };
+
+    fn run<F: Shelf, O: Sink>(
+        &self,
+        alloc: Global,
+        words: &[String],
+        shelf: &mut F,
+        out: &mut O,
+    ) -> u8 {
+        run(alloc, words, shelf, out)
     }
 }

@@ -1,26 +1,21 @@
-//! Reading certificates.
+//! Reading a chain of certificates.
 
-ghost use Rattle.std.specs.Prelude.{◌≡◌, ◌++◌, List, IfErr, OnOk, map};
-ghost use Rattle.x509_core.specs.KeptCertificate.{KeptCertificate};
-ghost use Rattle.signature_questions.specs.Commands.{AreKeptCertificates, IsFirstUnread};
+ghost use Rattle.std.specs.Prelude.{◌∷◌, MatchResult};
+ghost use Rattle.program_frame.specs.Held.{contents_held};
+ghost use Rattle.x509_core.specs.KeptCertificates.{AreKeptCertificates, IsFirstUnread};
 
+use program_frame::Contents;
 use std::alloc::Global;
-use x509_core::{Cert, CertError};
+use x509_core::{Cert, CertError, read_certificates};
 
-/// Reads certificates and appends them to those already read.
-pub(crate) fn read_certificates(
-    alloc: Global,
-    octets: &[Vec<u8>],
-    certificates: &mut Vec<Cert>,
-) -> Result<(), CertError>
-    ensures read { OnOk result ((read : List KeptCertificate)
-        × (certificates.new.items ≡ certificates.old.items ++ read)
-        × AreKeptCertificates (map (λ octets. octets.items) octets.now) read) }
-    ensures unread { IfErr result (IsFirstUnread (map (λ octets. octets.items) octets.now)) }
+/// Reads the certificates of a chain, each from exactly its octets: the first, and its parents. The
+/// first that isn't read refuses all.
+pub(crate) fn read_chain(alloc: Global, read: &Contents) -> Result<(Cert, Vec<Cert>), CertError>
+    ensures { MatchResult result
+        (λ chain. AreKeptCertificates (contents_held read.now) (chain.0 ∷ chain.1.items))
+        (IsFirstUnread (contents_held read.now)) }
 {
-    let [first, others @ ..] = octets else {
-        return Ok(());
-    };
-    certificates.push(Cert::from_der(alloc, first)?)?;
-    read_certificates(alloc, others, certificates)
+    let checked = Cert::from_der(alloc, &read.first)?;
+    let parents = read_certificates(alloc, &read.others)?;
+    Ok((checked, parents))
 }

@@ -1,4 +1,4 @@
-//! Which words request a job, for an empty signature file `s`, another named `--until`, and an
+//! Which words request a command, for an empty signature file `s`, another named `--until`, and an
 //! empty table `t`.
 
 use picky_check::{MemShelf, MemSink, REFUSED, USAGE, run};
@@ -10,7 +10,7 @@ const OCTETS_64: &str = "000102030405060708090a0b0c0d0e0f101112131415161718191a1
 const OCTETS_65: &str = "000102030405060708090a0b0c0d0e0f101112131415161718191a1b1c1d1e1f\
     202122232425262728292a2b2c2d2e2f303132333435363738393a3b3c3d3e3f40";
 
-// Words, and whether they request a job.
+// Words, and whether they request a command.
 #[rattlefmt::skip]
 const WORDS: [(&str, &[&str], bool); 70] = [
     ("no words",            &[],                              false),

@@ -1,26 +1,17 @@
-use Rattle.program_frame.proofs.Failing.{failed_as}
-use Rattle.program_frame.proofs.Runs.{IsRun-ended, IsRun-unasked, reports_shelf}
-use Rattle.program_frame.proofs.WordLists.{one_asked}
-use Rattle.ca_register.specs.Answer.{command}
-use Rattle.ca_register.specs.Inquiry.{job_held}
-use Rattle.ca_register.proofs.Answered.{ended_count}
+use Rattle.std.proofs.Common.{map}
+use Rattle.std.specs.Prelude.{string_bytes}
+use Rattle.program_frame.proofs.Parsing.{IsParsed-option}
+use Rattle.ca_register.specs.Commands.{program}
+use Rattle.ca_register.specs.HeldCommand.{command_held}
+use Rattle.ca_register.proofs.Answered.{reported_count}
 use Rattle.ca_register.proofs.program.run.Goals as goal
 
-pub returns-in-Some-clause-ends : goal.returns-in-Some-clause-ends
-returns-in-Some-clause-ends g c =
-    IsRun-ended command _ _ _ (job_held c.in-Some.job) (rw c.in-Some.is at c.job_of.ensures.asked)
-    (λ other asked. one_asked job_held c.job_of.result c.in-Some.job other c.in-Some.is (c.job_of.ensures.only other asked))
-    c.answer.result c.answer.ensures.found c.answer.ensures.low _ _ c.finish.ensures.capacity c.finish.result c.finish.ensures.ends
+pub returns-clause-ends : goal.returns-clause-ends
+returns-clause-ends g c = c.run.ensures (map string_bytes c.args.words.now)
+    (IsParsed-option program _ command_held c.command_of.result c.command_of.ensures.asked c.command_of.ensures.only)
 
-pub returns-in-None-clause-ends : goal.returns-in-None-clause-ends
-returns-in-None-clause-ends g c = IsRun-unasked command _ _ _ (rw c.in-None.is at c.job_of.ensures.asked)
-
-pub returns-in-Some-clause-counted : goal.returns-in-Some-clause-counted
-returns-in-Some-clause-counted g c zero =
-    ended_count _ _ _ c.answer.result (c.answer.ensures.counted _ (rw c.in-Some.is at c.job_of.ensures.asked)) _ _ c.finish.result zero c.finish.ensures.ends
-
-pub returns-in-Some-clause-unread : goal.returns-in-Some-clause-unread
-returns-in-Some-clause-unread g c none = absurd (none (job_held c.in-Some.job) (rw c.in-Some.is at c.job_of.ensures.asked))
-
-pub returns-in-Some-clause-shelf_once : goal.returns-in-Some-clause-shelf_once
-returns-in-Some-clause-shelf_once g c = failed_as (reports_shelf c.answer.result _ _ c.finish.result c.finish.ensures.ends) c.answer.ensures.once
+pub returns-clause-counted : goal.returns-clause-counted
+returns-clause-counted g c zero =
+    reported_count _ _ _ _ _ _ c.run.result zero
+    (c.run.ensures (map string_bytes c.args.words.now)
+    (IsParsed-option program _ command_held c.command_of.result c.command_of.ensures.asked c.command_of.ensures.only))

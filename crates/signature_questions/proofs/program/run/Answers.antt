@@ -1,33 +1,12 @@
-use Rattle.std.proofs.Common.{length, subst}
-use Rattle.program_frame.specs.ReadFiles.{HandsOutAtMost}
-use Rattle.program_frame.proofs.Failing.{failed_as}
-use Rattle.program_frame.proofs.Runs.{IsRun-ended, IsRun-unasked, reports_shelf}
-use Rattle.program_frame.proofs.WordLists.{one_asked}
-use Rattle.signature_questions.specs.Commands.{command_line}
-use Rattle.signature_questions.specs.Jobs.{job_held}
-use Rattle.signature_questions.specs.Words.{Job, files_of}
-use Rattle.signature_questions.proofs.Reported.{some_files}
+use Rattle.std.proofs.Common.{map}
+use Rattle.std.specs.Prelude.{string_bytes}
+use Rattle.program_frame.proofs.Parsing.{IsParsed-option}
+use Rattle.signature_questions.specs.Commands.{program}
+use Rattle.signature_questions.specs.HeldCommand.{command_held}
 use Rattle.signature_questions.proofs.program.run.Goals as goal
 
-pub returns-in-Some-clause-ends : goal.returns-in-Some-clause-ends
-returns-in-Some-clause-ends g c =
-    IsRun-ended command_line _ _ _ (job_held c.in-Some.job) (rw c.in-Some.is at c.job_of.ensures.asked)
-    (λ other asked. one_asked job_held c.job_of.result c.in-Some.job other c.in-Some.is (c.job_of.ensures.only other asked))
-    c.answer.result c.answer.ensures.found c.answer.ensures.low _ _ c.finish.ensures.capacity c.finish.result c.finish.ensures.ends
-
-pub returns-in-None-clause-ends : goal.returns-in-None-clause-ends
-returns-in-None-clause-ends g c = IsRun-unasked command_line _ _ _ (rw c.in-None.is at c.job_of.ensures.asked)
-
-pub returns-in-Some-clause-unread : goal.returns-in-Some-clause-unread
-returns-in-Some-clause-unread g c none = absurd (none (job_held c.in-Some.job) (rw c.in-Some.is at c.job_of.ensures.asked))
-
-pub returns-in-Some-clause-at_most : goal.returns-in-Some-clause-at_most
-returns-in-Some-clause-at_most g c other asked =
-    subst (λ (job : Job). HandsOutAtMost (length (files_of job)) (g.F.Shelf.state c.args.shelf.now) (g.F.Shelf.state c.answer.new.shelf))
-    (one_asked job_held c.job_of.result c.in-Some.job other c.in-Some.is (c.job_of.ensures.only other asked)) c.answer.ensures.at_most
-
-pub returns-in-Some-clause-shelf_once : goal.returns-in-Some-clause-shelf_once
-returns-in-Some-clause-shelf_once g c = failed_as (reports_shelf c.answer.result _ _ c.finish.result c.finish.ensures.ends) c.answer.ensures.once
-
-pub answer-requires : goal.answer-requires
-answer-requires g c = some_files _ (job_held c.in-Some.job) (rw c.in-Some.is at c.job_of.ensures.asked)
+pub returns : goal.returns
+returns g c = record {
+  ends = c.run.ensures (map string_bytes c.args.words.now)
+      (IsParsed-option program _ command_held c.command_of.result c.command_of.ensures.asked c.command_of.ensures.only);
+}

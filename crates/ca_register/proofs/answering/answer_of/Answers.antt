@@ -1,7 +1,7 @@
 use Rattle.std.proofs.Common.{map}
 use Rattle.ca_register.specs.Held.{line_held}
 use Rattle.ca_register.proofs.Answered.{issued_count}
-use Rattle.ca_register.proofs.inquiry.answer_of.Goals as goal
+use Rattle.ca_register.proofs.answering.answer_of.Goals as goal
 
 pub returns-in-Ok-clause-issued : goal.returns-in-Ok-clause-issued
 returns-in-Ok-clause-issued c issued accepted same =

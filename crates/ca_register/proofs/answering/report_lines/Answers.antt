@@ -1,7 +1,7 @@
 use Rattle.std.proofs.Common.{map}
 use Rattle.ca_register.specs.Held.{line_held}
 use Rattle.ca_register.proofs.Answered.{answer_reports}
-use Rattle.ca_register.proofs.inquiry.report_lines.Goals as goal
+use Rattle.ca_register.proofs.answering.report_lines.Goals as goal
 
 pub returns-clause-answer : goal.returns-clause-answer
 returns-clause-answer c =

@@ -4,7 +4,7 @@ use names_core::UtcDate;
 
 /// How many certificates of a register are accepted at a date.
 #[derive(Clone, Copy, Debug)]
-pub(crate) struct Job<'a> {
+pub(crate) struct Command<'a> {
     /// The text of the register.
     pub(crate) file: &'a str,
     pub(crate) date: UtcDate,
