@@ -1,5 +1,5 @@
 -- Promises, which public contracts cite: of the check `PeAnswer`, `ImageHash`, `RefusalName`,
--- `Refusals`; of the program `Vouched`, `Run`, `Words`.
+-- `Refusals`; of the program `Vouched`, `Words`.
 -- Rules, which the promises rest on: `ProgramPolicy`, `ListAnswer`, `Report`, `Commands`.
 -- Inside, which no public contract cites: `HeldCommand`.
 pub mod PeAnswer

@@ -1,7 +1,7 @@
 -- Promises, which public contracts cite: all but those named below; first `AnchoredPath`,
--- `FirstPath`, and for the program `Run`, `Reported`.
+-- `FirstPath`, and for the program `Reported`.
 -- Rules, which the promises rest on: `Answer`.
--- Inside, which no public contract cites: `Inside`, `HeldCommand`, `Inquiry`.
+-- Inside, which no public contract cites: `Inside`, `HeldCommand`, `Reading`.
 pub mod Anchors
 pub mod AnchoredPath
 pub mod FirstPath
