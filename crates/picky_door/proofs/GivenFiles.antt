@@ -18,3 +18,11 @@ with_table files pushed file table pooled name push is_name is_table are =
     ∙ ap (λ o. option_or o (named file name)) are
     ∙ ap (λ n. option_or pooled (if bytes_eq n name then Some file.octets.now else None)) is_name
     ∙ ap (λ t. option_or pooled (if bytes_eq (codes "TABLE") name then t else None)) is_table
+
+-- without a table the files are those of the pool
+pub without_table : (pooled table : Option (List ℕ)) (named : Bool) → None ≡ table → pooled ≡ option_or pooled (if named then table else None)
+without_table pooled table named is = none_more pooled named ∙ ap (λ t. option_or pooled (if named then t else None)) is where
+  none_more : (pooled : Option (List ℕ)) (named : Bool) → pooled ≡ option_or pooled (if named then None else None)
+  none_more (Some octets) named = refl
+  none_more None true = refl
+  none_more None false = refl
