@@ -1,5 +1,5 @@
 use Rattle.picky_check.proofs.Reported.{signature_reported}
-use Rattle.picky_check.proofs.inquiry.judge_signature.Goals as goal
+use Rattle.picky_check.proofs.answering.judge_signature.Goals as goal
 
 pub returns : goal.returns
 returns g c =
