@@ -25,7 +25,7 @@ abbrev Answer : Type 0
 Answer = Result Accepted PeCheckError
 
 -- the line of a refusal, by its text
-refused_as : List ℕ → Line
+abbrev refused_as : List ℕ → Line
 refused_as text = record { status = 1; text = text }
 
 -- refusals with one line have one report

@@ -26,7 +26,7 @@ wants : (e : CheckError) → e ≡ check.Memory → IsOutOfMemory (OfSignature (
 wants e is = subst (λ (x : CheckError). IsOutOfMemory (OfSignature (Err x))) (sym is) tt
 
 -- the line of a refusal, by its text
-refused_as : List ℕ → Line
+abbrev refused_as : List ℕ → Line
 refused_as text = record { status = 1; text = text }
 
 -- refusals with one line have one report
