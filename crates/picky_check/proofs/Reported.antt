@@ -1,6 +1,5 @@
 -- A report of an answer is a report of each answer with the same cause.
-use Rattle.std.proofs.Common.{◌≡◌, ◌⊎◌, ℕ, ◌≤◌, List, Result, Ok, Err, inl, inr, refl, sym, subst, ◌∙◌, arith}
-use Rattle.std.specs.Prelude.{string_bytes}
+use Rattle.std.proofs.Common.{◌≡◌, ◌⊎◌, ℕ, ◌≤◌, List, Result, Ok, Err, inl, inr, sym, subst, arith}
 use Rattle.authenticode_core.specs.declared.accepted.Accepted.{Accepted}
 use Rattle.authenticode_core.specs.declared.error.CheckError.{CheckError}
 use Rattle.authenticode_core.specs.declared.error.CheckError.TheVariants as check

@@ -1,4 +1,4 @@
-use Rattle.std.proofs.Common.{◌∙◌, arith, sym}
+use Rattle.std.proofs.Common.{◌∙◌, arith}
 use Rattle.program_frame.proofs.Parsing.{IsParsed-result}
 use Rattle.picky_check.specs.Answer.{commands}
 use Rattle.picky_check.specs.HeldCommand.{command_held}
