@@ -9,7 +9,6 @@ mod StepRefusals
 mod StepSubjects
 mod StepBuilders
 mod StepCerts
-mod Rereading
 mod StepHistories
 mod Ancestors
 mod Whole

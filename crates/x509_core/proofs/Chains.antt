@@ -13,14 +13,14 @@ module _ {K : Type 0} where
   assoc (x ∷ a) b c = ap (λ (zs : List K). x ∷ zs) (assoc a b c)
 
   -- an index in a list with one more member is the last one, or one in the list
-  abbrev IsPlace : (xs before : List K) (x parent : K) → Type 0
+  abbrev pub IsPlace : (xs before : List K) (x parent : K) → Type 0
   IsPlace xs before x parent = ((xs ≡ before) × (x ≡ parent)) ⊎ ((rest : List K) × (xs ≡ before ++ parent ∷ rest))
 
   further : (y b : K) (xs before : List K) (x parent : K) → y ≡ b → IsPlace xs before x parent → IsPlace (y ∷ xs) (b ∷ before) x parent
   further y b xs before x parent same (inl (p, q)) = inl (ap (λ (zs : List K). y ∷ zs) p ∙ ap (λ (z : K). z ∷ before) same, q)
   further y b xs before x parent same (inr (rest, p)) = inr (rest, ap (λ (zs : List K). y ∷ zs) p ∙ ap (λ (z : K). z ∷ (before ++ parent ∷ rest)) same)
 
-  place : (xs before after : List K) (x parent : K) → xs ++ x ∷ [] ≡ before ++ parent ∷ after → IsPlace xs before x parent
+  pub place : (xs before after : List K) (x parent : K) → xs ++ x ∷ [] ≡ before ++ parent ∷ after → IsPlace xs before x parent
   place [] [] after x parent e = inl (refl, cc)
   place [] (b ∷ before) after x parent e =
       let none : [] ≡ before ++ parent ∷ after = cc in

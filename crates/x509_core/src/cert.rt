@@ -20,7 +20,7 @@ ghost use Rattle.x509_types.specs.CertificateElements.{certificate_of};
 ghost use Rattle.x509_types.specs.CertificateView.{IsKnownView, view_elements};
 ghost use Rattle.x509_types.specs.FirstOfValue.{extensions_in};
 ghost use Rattle.x509_types.specs.declared.certificate.Certificate.{Certificate};
-ghost use Rattle.x509_core.specs.KeptCertificate.{HasFields, kept_octets, written_elements, written_octets};
+ghost use Rattle.x509_core.specs.KeptCertificate.{HasFields, KeptCertificate, kept_octets, written_elements, written_octets};
 ghost use Rattle.x509_core.specs.Keyless.{joined};
 ghost use Rattle.x509_core.specs.CertRefusals.{IsUnreadCert, IsUnwrittenCert};
 ghost use Rattle.x509_core.specs.declared.error.CertError.TheVariants as errors;
@@ -91,6 +91,9 @@ impl Cert {
         ensures shapeless { (element : DerElement) → IsDer element → der.now ≡ encoding element
             → ((c : Certificate) → IsCertificate element c → ⊥)
             → result ≡ Err (errors.Asn1Deserialization elements.Certificate der_errors.Shape) }
+        // The octets of a known certificate are read as that certificate, or memory runs out.
+        ensures reread { (cert : KeptCertificate) → der.now ≡ kept_octets cert
+            → MatchResult result (λ read. read ≡ cert) (λ e. e ≡ errors.Memory) }
     {
         match Cert::read(alloc, der) {
             Ok(cert) => Ok(cert),

@@ -1,4 +1,5 @@
 pub mod ReadCsrs
+pub mod Rereading
 pub mod Generating
 pub mod WantedExtensions
 pub mod Subjects

@@ -17,7 +17,7 @@ ghost use Rattle.x509_issuing.specs.CertificationRequest.{IsRequest, request};
 ghost use Rattle.x509_issuing.specs.declared.request.CertificationRequest.{CertificationRequest};
 ghost use Rattle.x509_core.specs.declared.csr_error.CsrError.TheVariants as errors;
 ghost use Rattle.x509_issuing.specs.CsrRefusals.{IsUnreadCsr, IsUnwrittenCsr};
-ghost use Rattle.x509_issuing.specs.KeptRequest.{HasInfo, kept_request, request_with, request_elements};
+ghost use Rattle.x509_issuing.specs.KeptRequest.{HasInfo, KeptRequest, kept_request, request_with, request_elements};
 ghost use Rattle.x509_issuing.specs.Facts.Csrs.{HasInfo-prop};
 
 mod asking;
@@ -100,6 +100,9 @@ impl Csr {
         ensures shapeless { (element : DerElement) → IsDer element → der.now ≡ encoding element
             → ((r : CertificationRequest) → IsRequest element r → ⊥)
             → result ≡ Err (errors.Asn1Deserialization elements.Request der_errors.Shape) }
+        // The octets of a known request are read as that request, or memory runs out.
+        ensures reread { (csr : KeptRequest) → der.now ≡ encoding (kept_request csr)
+            → MatchResult result (λ read. read ≡ csr) (λ e. e ≡ errors.Memory) }
     {
         match Csr::read(alloc, der) {
             Ok(csr) => Ok(csr),
