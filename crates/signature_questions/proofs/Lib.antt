@@ -17,5 +17,6 @@ pub mod OneList
 pub mod Reported
 pub mod WrittenLines
 pub mod ReadCauses
+pub mod Determined
 pub mod OneLine
 pub mod LineReports
