@@ -1,5 +1,6 @@
 pub mod Orders
 pub mod Chains
+pub mod Agreed
 pub mod Trails
 pub mod Paths
 pub mod Turns

@@ -5,6 +5,7 @@
 pub mod Anchors
 pub mod AnchoredPath
 pub mod FirstPath
+pub mod Agreement
 pub mod Refusals
 pub mod ErrorText
 pub mod PathText

@@ -1,11 +1,12 @@
 //! Laws on anchored paths.
 
-ghost use Rattle.std.specs.Prelude.{◌≡◌, List, Some};
+ghost use Rattle.std.specs.Prelude.{◌≡◌, List, Option, Some, MatchOption};
 ghost use Rattle.asn1_types.specs.declared.generalized_time.GeneralizedTime.{GeneralizedTime};
 ghost use Rattle.key_core.specs.Verifying.{Judge};
 ghost use Rattle.x509_core.specs.Chain.{IsAccepted};
 ghost use Rattle.x509_core.specs.KeptCertificate.{KeptCertificate};
-ghost use Rattle.trust_anchors.specs.AnchoredPath.{IsAnchoredPath, checks_on, parents_of};
+ghost use Rattle.trust_anchors.specs.Agreement.{AgreeOnLinks};
+ghost use Rattle.trust_anchors.specs.AnchoredPath.{HasNoPath, IsAnchoredPath, checks_on, parents_of};
 ghost use Rattle.trust_anchors.specs.FirstPath.{IsFirstPath};
 ghost use Rattle.trust_anchors.specs.declared.anchor.Anchor.{Anchor};
 ghost use Rattle.trust_anchors.specs.declared.anchor.Purpose.{Purpose};
@@ -29,4 +30,21 @@ pub fn first_paths_are_one()
         (a b : AnchoredPath)
         → IsFirstPath (IsAnchoredPath judge date checked pool anchors purpose) a
         → IsFirstPath (IsAnchoredPath judge date checked pool anchors purpose) b → a ≡ b }
+{}
+
+/// Which path is found depends on a scheme by who signed whom alone: where under two schemes the
+/// same certificates signed the checked one and those of the pool, of those in the pool and of the
+/// anchors that serve the purpose, what `find` returns under the one it may return under the other,
+/// by its clause `found`. So says `questions_decide_chains` (`signed`) of `signature_questions`,
+/// where both have the same verdicts on the questions about these.
+pub fn links_decide_paths()
+    ensures { (a b : Judge) (date : GeneralizedTime) (checked : KeptCertificate)
+        (pool : List KeptCertificate) (anchors : List Anchor) (purpose : Purpose)
+        (found : Option AnchoredPath) → AgreeOnLinks a b checked pool anchors purpose
+        → MatchOption found
+        (HasNoPath (IsAnchoredPath a date checked pool anchors purpose))
+        (IsFirstPath (IsAnchoredPath a date checked pool anchors purpose))
+        → MatchOption found
+        (HasNoPath (IsAnchoredPath b date checked pool anchors purpose))
+        (IsFirstPath (IsAnchoredPath b date checked pool anchors purpose)) }
 {}

@@ -18,7 +18,7 @@ mod words;
 
 pub use anchor::Purpose;
 pub use error::AnchorError;
-pub use laws::{anchored_paths_are_accepted, first_paths_are_one};
+pub use laws::{anchored_paths_are_accepted, first_paths_are_one, links_decide_paths};
 pub use path::AnchoredPath;
 pub use program::run;
 pub use program_frame::{
