@@ -2,8 +2,9 @@
 
     python3 tools/gate/unused_lemmas.py crates
 
-Of each name that a file of specs/ or of proofs/ defines, answers of goals and worked examples (..Examples.antt) aside, prints those that no other definition
-of the file, no other file of .antt and no source names. Ends with 1 if there is one, and with 2 where nothing is read.
+Of each name that a file of specs/ or of proofs/ defines, answers of goals and worked examples (..Examples.antt) aside,
+prints those that no other definition of the file, no other file of .antt and no source names. Ends with 1 if there is
+one, and with 2 where nothing is read.
 """
 
 import re
@@ -61,7 +62,8 @@ def main(words: list[str]) -> int:
     sources = [path.read_text("utf-8") for path in sorted(folder.glob("*/src/**/*.rt"))]
     named = {path: set(tokens_of(lines)) for path, lines in texts.items()}
     counts = Counter(token for tokens in named.values() for token in tokens)
-    of_sources = {token for text in sources for token in TOKEN.findall(text)}
+    # A source names a lemma by its path, `crate::proofs::Rows::kid_lists` for one.
+    of_sources = {name for text in sources for token in TOKEN.findall(text) for name in token.split("::")}
     unused, looked = 0, 0
     for path, lines in texts.items():
         if path.stem in GIVEN or path.stem.endswith("Examples") or OF_THE_KIT in path.parts:

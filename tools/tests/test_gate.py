@@ -27,7 +27,7 @@ class EmptyFolderTest(unittest.TestCase):
     def test_each_script(self):
         self.assertEqual({script.rpartition("/")[2] for script, _ in SCRIPTS}, {
             "unused_calls.py", "after_errors.py", "crate_readmes.py", "requires_list.py", "import_circles.py",
-            "run_program.py", "door_library.py", "bindings.py"})
+            "unused_lemmas.py", "line_lengths.py", "run_program.py", "door_library.py", "bindings.py"})
         with TemporaryDirectory() as name:
             for script, words in SCRIPTS:
                 given = [name if word.startswith("crates") else word for word in words.split()]

@@ -1,5 +1,6 @@
 -- Whether octets are the contents of an OID can be decided.
-use Rattle.std.proofs.Common.{◌≡◌, ◌↔◌, ℕ, zero, suc, ◌^◌, ◌≤◌, Bool, true, false, IsTrue, Option, Some, None, List, [], ◌∷◌, ◌++◌, length, refl, sym, ap, ap₂, subst, ◌∙◌, arith, inl, inr, ◌⊎◌}
+use Rattle.std.proofs.Common.{◌≡◌, ◌↔◌, ℕ, zero, suc, ◌^◌, ◌≤◌, Bool, true, false, IsTrue, Option, Some, None}
+use Rattle.std.proofs.Common.{List, [], ◌∷◌, ◌++◌, length, refl, sym, ap, ap₂, subst, ◌∙◌, arith, inl, inr, ◌⊎◌}
 use Rattle.std.specs.Prelude.{bytes_eq}
 use Rattle.std.proofs.lemmas.Bool.{cases_lt, false≢true}
 use Rattle.std.proofs.lemmas.Slice.Eq.{bytes_eq-Decides}
@@ -41,7 +42,8 @@ by_reading : (octets : List ℕ) (r : Option (ℕ × List ℕ)) → read_after 0
 by_reading octets None read = inr (λ n after bounded is. none_is n after (read_is octets None n after read is))
 by_reading octets (Some p) read =
     elim (cases_lt p.0 (2 ^ 128)) [
-      | inr past ↦ inr (λ n after bounded is. let same = some_is n p.0 after p.1 (read_is octets (Some p) n after read is) in omega (arith, bounded, past, same.0))
+      | inr past ↦ inr (λ n after bounded is. let same = some_is n p.0 after p.1 (read_is octets (Some p) n after read is) in
+          omega (arith, bounded, past, same.0))
       | inl bounded ↦ elim (same_or_not octets (subidentifier p.0 ++ p.1)) [
         | inl is ↦ inl (p.1, record { number = p.0; bounded = bounded; spelled = is })
         | inr other ↦ inr (λ n after bounded is.

@@ -1,5 +1,6 @@
 -- Octets are the contents of an OID if they are subidentifiers, at least one.
-use Rattle.std.proofs.Common.{◌≡◌, ◌≢◌, ◌↔◌, ℕ, Bool, true, false, not, IsTrue, eqb, length, refl, ◌+◌, ◌-◌, ◌*◌, ◌/◌, ◌%◌, ◌<◌, ◌≤◌, List, [], ◌∷◌, ◌++◌, suc, get_or, take, drop, sym, ap, ap₂, subst, ◌∙◌, inl, inr, arith}
+use Rattle.std.proofs.Common.{◌≡◌, ◌≢◌, ◌↔◌, ℕ, Bool, true, false, not, IsTrue, eqb, length, refl, ◌+◌, ◌-◌, ◌*◌, ◌/◌, ◌%◌, ◌<◌}
+use Rattle.std.proofs.Common.{◌≤◌, List, [], ◌∷◌, ◌++◌, suc, get_or, take, drop, sym, ap, ap₂, subst, ◌∙◌, inl, inr, arith}
 use Rattle.std.proofs.lemmas.Bool.{cases_lt, eqb-true, eqb-false, false≢true}
 use Rattle.std.proofs.lemmas.List.{nil_from_length, take_all}
 use Rattle.std.specs.List.{AllByRecursion, flat_map}
@@ -79,8 +80,10 @@ pub arcs_made : (arcs octets : List ℕ) (root : ℕ) → 2 ≤ length arcs → 
     → IsArcs arcs × (octets ≡ contents_of arcs)
 arcs_made [] octets root two is_root made each e = absurd (omega arith)
 arcs_made (x ∷ []) octets root two is_root made each e = absurd (omega arith)
-arcs_made (x ∷ y ∷ xs) octets root two is_root made each e =
-    ((is_root, bounded_from xs (λ i. each (suc (suc i)))), e ∙ ap₂ (λ n ns. subidentifier n ++ flat_map subidentifier ns) made (take_all (length (x ∷ y ∷ xs) - 2) xs (omega arith)))
+arcs_made (x ∷ y ∷ xs) octets root two is_root made each e = (
+  (is_root, bounded_from xs (λ i. each (suc (suc i)))),
+  e ∙ ap₂ (λ n ns. subidentifier n ++ flat_map subidentifier ns) made (take_all (length (x ∷ y ∷ xs) - 2) xs (omega arith)),
+)
 
 abbrev identifier_of : (contents : List ℕ) → IsIdentifier contents → ObjectIdentifier
 identifier_of contents identifier = record { contents = contents; formed = identifier }

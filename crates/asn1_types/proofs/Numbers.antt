@@ -60,7 +60,8 @@ same_octets (x ∷ xs) (y ∷ ys) fit fit' many e =
     let width : 256 ^ length xs ≡ 256 ^ length ys = ap (λ n. 256 ^ n) as_many in
     let fits = tail_IsOctets x xs fit in
     let fits' = tail_IsOctets y ys fit' in
-    let parts = digits_are x y (positional xs) (positional ys) (256 ^ length ys) (omega (arith, below xs fits)) (below ys fits') (ap (λ w. x * w + positional xs) (sym width) ∙ e) in
+    let parts = digits_are x y (positional xs) (positional ys) (256 ^ length ys) (omega (arith, below xs fits)) (below ys fits')
+    (ap (λ w. x * w + positional xs) (sym width) ∙ e) in
     ap (λ d. d ∷ xs) parts.0 ∙ ap (λ ds. y ∷ ds) (same_octets xs ys fits fits' as_many parts.1)
 
 -- The first nine bits aren't all 0, so the number has at least one bit among them.
@@ -79,7 +80,8 @@ at_most : (octet : ℕ) (octets : List ℕ) → IsOctets (octet ∷ octets) → 
 at_most octet octets fit low =
     omega (arith, mul-add-lt octet (256 ^ length octets) (positional octets) 128 low (below octets (tail_IsOctets octet octets fit)))
 
-pub none_shorter : (number : ℕ) (a b : List ℕ) → IsOctets b → IsUnsignedInteger number a → IsInteger b → slice_index b 0 < 128 → number_of b ≡ number → length a ≤ length b
+pub none_shorter : (number : ℕ) (a b : List ℕ) → IsOctets b → IsUnsignedInteger number a → IsInteger b → slice_index b 0 < 128 → number_of b ≡ number
+    → length a ≤ length b
 none_shorter number a [] fit unsigned some low e = absurd (some refl)
 none_shorter number [] (octet ∷ octets) fit unsigned some low e = absurd unsigned.shortest
 none_shorter number (x ∷ []) (octet ∷ octets) fit unsigned some low e = omega arith
@@ -87,7 +89,14 @@ none_shorter number (x ∷ y ∷ more) (octet ∷ octets) fit unsigned some low 
     elim (cases_lt (length octets) (suc (length more))) [
       | inl fewer ↦
           let widths : 256 ^ length octets ≤ 256 ^ length more = pow-le-pow_right (omega arith) (omega arith) in
-          absurd (omega (arith, widths, at_least x y more unsigned.shortest.0, at_most octet octets fit low, sym (positional_is (x ∷ y ∷ more)) ∙ unsigned.same_number, sym (positional_is (octet ∷ octets)) ∙ e))
+          absurd (omega (
+            arith,
+            widths,
+            at_least x y more unsigned.shortest.0,
+            at_most octet octets fit low,
+            sym (positional_is (x ∷ y ∷ more)) ∙ unsigned.same_number,
+            sym (positional_is (octet ∷ octets)) ∙ e,
+          ))
       | inr enough ↦ omega arith
     ]
 

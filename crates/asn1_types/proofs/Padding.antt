@@ -50,5 +50,6 @@ padded_four n small =
 pub two_written : (s : _) (shown n : ℕ) → s ≡ format_spec 32 0 4 2 (2 ^ 64 - 1) → shown ≡ n → n < 100 → styled_decimal s shown ≡ two_digits n
 two_written s shown n layout same small = rw (layout, same) (padded_two n small)
 
-pub four_written : (s : _) (shown n : ℕ) → s ≡ format_spec 32 0 4 4 (2 ^ 64 - 1) → shown ≡ n → n < 10000 → styled_decimal s shown ≡ two_digits (n / 100) ++ two_digits (n % 100)
+pub four_written : (s : _) (shown n : ℕ) → s ≡ format_spec 32 0 4 4 (2 ^ 64 - 1) → shown ≡ n → n < 10000
+    → styled_decimal s shown ≡ two_digits (n / 100) ++ two_digits (n % 100)
 four_written s shown n layout same small = rw (layout, same) (padded_four n small)

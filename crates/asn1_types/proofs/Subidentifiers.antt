@@ -1,5 +1,6 @@
 -- Octets that begin with a subidentifier, and octets that don't.
-use Rattle.std.proofs.Common.{◌≡◌, ◌≢◌, ◌↔◌, ℕ, Bool, ◌+◌, ◌-◌, ◌*◌, ◌/◌, ◌%◌, ◌^◌, ◌<◌, ◌≤◌, cond, true, false, Option, Some, None, List, [], ◌∷◌, ◌++◌, map, refl, ltb, sym, take, drop, ap, ap₂, ◌∙◌, append_assoc, length, length-append, get_or, inl, inr, arith}
+use Rattle.std.proofs.Common.{◌≡◌, ◌≢◌, ◌↔◌, ℕ, Bool, ◌+◌, ◌-◌, ◌*◌, ◌/◌, ◌%◌, ◌^◌, ◌<◌, ◌≤◌, cond, true, false, Option, Some, None, List, [], ◌∷◌}
+use Rattle.std.proofs.Common.{◌++◌, map, refl, ltb, sym, take, drop, ap, ap₂, ◌∙◌, append_assoc, length, length-append, get_or, inl, inr, arith}
 use Rattle.std.proofs.lemmas.Bool.{cases_lt, lt-ltb, le-ltb}
 use Rattle.std.proofs.lemmas.List.{take_all}
 use Rattle.std.proofs.lemmas.Int.Digits.{first_digits_of, length-digits_of_step}
@@ -43,7 +44,11 @@ last_one octets rest after number octet read next low =
 pub of_one : (octets : List ℕ) → 1 ≤ length octets → get_or octets 0 0 < 128 → BeginsWithSubidentifier octets (take (length octets - 1) (drop 1 octets))
 of_one [] some low = absurd (omega arith)
 of_one (last ∷ after) some low =
-    record { number = 0 * 128 + last % 128; bounded = omega arith; spelled = rw (take_all (length (last ∷ after) - 1) after (omega arith)) (last_one (last ∷ after) (last ∷ after) after 0 last refl refl low) }
+    record {
+      number = 0 * 128 + last % 128;
+      bounded = omega arith;
+      spelled = rw (take_all (length (last ∷ after) - 1) after (omega arith)) (last_one (last ∷ after) (last ∷ after) after 0 last refl refl low);
+    }
 
 pub of_two : (octets : List ℕ) → 2 ≤ length octets → 128 < get_or octets 0 0 → get_or octets 0 0 < 256 → get_or octets 1 0 < 128
     → BeginsWithSubidentifier octets (take (length octets - 2) (drop 2 octets))
@@ -52,9 +57,14 @@ of_two (first ∷ []) some high byte low = absurd (omega arith)
 of_two (first ∷ last ∷ after) some high byte low =
     let octets : List ℕ = first ∷ last ∷ after in
     let read = one_more octets octets (last ∷ after) 0 first refl refl (omega arith) byte (omega arith) in
-    record { number = (0 * 128 + first % 128) * 128 + last % 128; bounded = omega arith; spelled = rw (take_all (length octets - 2) after (omega arith)) (last_one octets (last ∷ after) after (0 * 128 + first % 128) last read refl low) }
+    record {
+      number = (0 * 128 + first % 128) * 128 + last % 128;
+      bounded = omega arith;
+      spelled = rw (take_all (length octets - 2) after (omega arith)) (last_one octets (last ∷ after) after (0 * 128 + first % 128) last read refl low);
+    }
 
-pub of_three : (octets : List ℕ) → 3 ≤ length octets → 128 < get_or octets 0 0 → get_or octets 0 0 < 256 → 128 ≤ get_or octets 1 0 → get_or octets 1 0 < 256 → get_or octets 2 0 < 128
+pub of_three : (octets : List ℕ) → 3 ≤ length octets → 128 < get_or octets 0 0 → get_or octets 0 0 < 256 → 128 ≤ get_or octets 1 0 → get_or octets 1 0 < 256
+    → get_or octets 2 0 < 128
     → BeginsWithSubidentifier octets (take (length octets - 3) (drop 3 octets))
 of_three [] some high byte more octet low = absurd (omega arith)
 of_three (first ∷ []) some high byte more octet low = absurd (omega arith)
@@ -64,7 +74,11 @@ of_three (first ∷ next ∷ last ∷ after) some high byte more octet low =
     let digit : ℕ = 0 * 128 + first % 128 in
     let read = one_more octets octets (next ∷ last ∷ after) 0 first refl refl (omega arith) byte (omega arith) in
     let again = one_more octets (next ∷ last ∷ after) (last ∷ after) digit next read refl more octet (omega arith) in
-    record { number = (digit * 128 + next % 128) * 128 + last % 128; bounded = omega arith; spelled = rw (take_all (length octets - 3) after (omega arith)) (last_one octets (last ∷ after) after (digit * 128 + next % 128) last again refl low) }
+    record {
+      number = (digit * 128 + next % 128) * 128 + last % 128;
+      bounded = omega arith;
+      spelled = rw (take_all (length octets - 3) after (omega arith)) (last_one octets (last ∷ after) after (digit * 128 + next % 128) last again refl low);
+    }
 
 abbrev found : ℕ → List ℕ → Option (ℕ × List ℕ)
 found number rest = Some (number, rest)

@@ -1,5 +1,6 @@
 -- Times with the same fields are the same, and pairs of digits are read as one time.
-use Rattle.std.proofs.Common.{◌≡◌, ℕ, ◌+◌, ◌*◌, ◌/◌, ◌%◌, List, [], ◌∷◌, length, get_or, slice_index, Option, None, Some, IsSome, IfSome, MatchOption, ◌≢◌, ◌↔◌, arith, sym, ap, subst, ◌∙◌}
+use Rattle.std.proofs.Common.{◌≡◌, ℕ, ◌+◌, ◌*◌, ◌/◌, ◌%◌, List, [], ◌∷◌, length, get_or, slice_index, Option}
+use Rattle.std.proofs.Common.{None, Some, IsSome, IfSome, MatchOption, ◌≢◌, ◌↔◌, arith, sym, ap, subst, ◌∙◌}
 use Rattle.asn1_types.specs.Calendar.{IsUtcYear}
 use Rattle.asn1_types.specs.declared.generalized_time.GeneralizedTime.{GeneralizedTime}
 use Rattle.asn1_types.specs.declared.utc_time.UTCTime.{UTCTime}
@@ -9,13 +10,15 @@ use Rattle.asn1_types.specs.Time.{IsPair, generalized_contents, generalized_fiel
 -- ---- fields
 
 -- The time made of the fields of a time is that time.
-pub generalized_made : (made : Option GeneralizedTime) (t : GeneralizedTime) (xs : List ℕ) → (IsSome made ↔ AreMoment xs) → IfSome made (λ v. generalized_fields v ≡ xs) → generalized_fields t ≡ xs → made ≡ Some t
+pub generalized_made : (made : Option GeneralizedTime) (t : GeneralizedTime) (xs : List ℕ) → (IsSome made ↔ AreMoment xs)
+    → IfSome made (λ v. generalized_fields v ≡ xs) → generalized_fields t ≡ xs → made ≡ Some t
 generalized_made None t xs exists given e =
     let made = exists.1 (subst AreMoment e t.exists) in absurd (cc)
 generalized_made (Some v) t xs exists given e = ap Some (same_generalized v t (given ∙ sym e))
 
 -- The same for years from 1950 to 2049.
-pub utc_made : (made : Option UTCTime) (t : UTCTime) (xs : List ℕ) → (IsSome made ↔ (AreMoment xs × IsUtcYear (get_or xs 0 0))) → IfSome made (λ v. utc_fields v ≡ xs) → utc_fields t ≡ xs → made ≡ Some t
+pub utc_made : (made : Option UTCTime) (t : UTCTime) (xs : List ℕ) → (IsSome made ↔ (AreMoment xs × IsUtcYear (get_or xs 0 0)))
+    → IfSome made (λ v. utc_fields v ≡ xs) → utc_fields t ≡ xs → made ≡ Some t
 utc_made None t xs exists given e =
     let made = exists.1 (subst (λ ys. AreMoment ys × IsUtcYear (get_or ys 0 0)) e (t.time.exists, t.of_years)) in absurd (cc)
 utc_made (Some v) t xs exists given e = ap Some (same_utc v t (given ∙ sym e))
@@ -23,10 +26,12 @@ utc_made (Some v) t xs exists given e = ap Some (same_utc v t (given ∙ sym e))
 -- ---- digits
 
 -- Seven pairs of digits and `Z` are the contents of the time with their numbers.
-pub generalized_spelled : (bs : List ℕ) (v : GeneralizedTime) (year century of_century month day hour minute second : ℕ) → year ≡ 100 * century + of_century → length bs ≡ 15 → slice_index bs 14 ≡ 90
+pub generalized_spelled : (bs : List ℕ) (v : GeneralizedTime) (year century of_century month day hour minute second : ℕ) → year ≡ 100 * century + of_century
+    → length bs ≡ 15 → slice_index bs 14 ≡ 90
     → IsPair bs 0 century → IsPair bs 2 of_century → IsPair bs 4 month → IsPair bs 6 day → IsPair bs 8 hour → IsPair bs 10 minute → IsPair bs 12 second
     → generalized_fields v ≡ year ∷ month ∷ day ∷ hour ∷ minute ∷ second ∷ [] → bs ≡ generalized_contents v
-generalized_spelled (a ∷ b ∷ c ∷ d ∷ e ∷ f ∷ g ∷ h ∷ i ∷ j ∷ k ∷ l ∷ m ∷ n ∷ o ∷ []) v year century of_century month day hour minute second whole len z p0 p2 p4 p6 p8 p10 p12 given =
+generalized_spelled (a ∷ b ∷ c ∷ d ∷ e ∷ f ∷ g ∷ h ∷ i ∷ j ∷ k ∷ l ∷ m ∷ n ∷ o ∷ []) v year century of_century month day hour minute second whole len z p0 p2 p4
+    p6 p8 p10 p12 given =
     let years : v.year ≡ year = cc in
     let first : v.year / 100 ≡ century = omega (arith, p2.0) in
     let last : v.year % 100 ≡ of_century = omega (arith, p2.0) in
@@ -52,7 +57,8 @@ generalized_read bs t year century of_century month day hour minute second whole
     cc
 
 -- A reader that reads the contents octets of all times, and only those, is exact.
-pub read_or_not : {T : Type 0} (contents fields : T → List ℕ) (bs xs : List ℕ) (read : Option T) → ((t : T) → bs ≡ contents t → read ≡ Some t) → ((t : T) → fields t ≡ xs → bs ≡ contents t) → IfSome read (λ t. fields t ≡ xs) → MatchOption read ((t : T) → bs ≢ contents t) (λ t. bs ≡ contents t)
+pub read_or_not : {T : Type 0} (contents fields : T → List ℕ) (bs xs : List ℕ) (read : Option T) → ((t : T) → bs ≡ contents t → read ≡ Some t)
+    → ((t : T) → fields t ≡ xs → bs ≡ contents t) → IfSome read (λ t. fields t ≡ xs) → MatchOption read ((t : T) → bs ≢ contents t) (λ t. bs ≡ contents t)
 read_or_not contents fields bs xs None only spelled given = λ t e. let read = only t e in absurd (cc)
 read_or_not contents fields bs xs (Some t) only spelled given = spelled t given
 

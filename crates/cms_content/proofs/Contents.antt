@@ -47,33 +47,41 @@ held element (contents.Other x) is = (x, is)
 held_of : (kind named : ContentKind) (element : DerElement) (content : ContentValue) → kind ≡ named → IsContentOf kind element content → Held named element
 held_of kind named element content is of = subst (λ (k : ContentKind). Held k element) (of.0 ∙ is) (held element content of.1)
 
-pub other_of : (kind : ContentKind) (element : DerElement) (content : ContentValue) → kind ≡ kinds.Other → IsContentOf kind element content → (kept : KeptElement) × (element ≡ kept.element)
+pub other_of : (kind : ContentKind) (element : DerElement) (content : ContentValue) → kind ≡ kinds.Other → IsContentOf kind element content
+    → (kept : KeptElement) × (element ≡ kept.element)
 other_of kind element content is of = held_of kind kinds.Other element content is of
 
-pub list_of : (kind : ContentKind) (element : DerElement) (content : ContentValue) → kind ≡ kinds.CertificateTrustList → IsContentOf kind element content → (list : Ctl) × (element ≡ ctl list)
+pub list_of : (kind : ContentKind) (element : DerElement) (content : ContentValue) → kind ≡ kinds.CertificateTrustList → IsContentOf kind element content
+    → (list : Ctl) × (element ≡ ctl list)
 list_of kind element content is of = held_of kind kinds.CertificateTrustList element content is of
 
 -- ---- an optional content
 
-pub some_content : (kind : ContentKind) (o : Option Elem) (e : Elem) (content : ContentValue) → o ≡ Some e → IsContentOf kind e.is.0 content → SpellsContent kind (at_option o) (Some content)
+pub some_content : (kind : ContentKind) (o : Option Elem) (e : Elem) (content : ContentValue) → o ≡ Some e → IsContentOf kind e.is.0 content
+    → SpellsContent kind (at_option o) (Some content)
 some_content kind o e content is of = (of.0, ap at_option is ∙ ap Some of.1)
 
 -- ---- contents with their types
 
-pub of_fields : (element : DerElement) (ty : DerElement) (content : Option DerElement) (id : ObjectIdentifier) (kind : ContentKind) (value : Option ContentValue) → element ≡ content_info_of ty content
-    → ty ≡ object_identifier id → kind ≡ named_content (identifier_contents id) → SpellsContent kind content value → (info : EncapsulatedContentInfo) × (element ≡ content_info info)
+pub of_fields : (element : DerElement) (ty : DerElement) (content : Option DerElement) (id : ObjectIdentifier) (kind : ContentKind)
+    (value : Option ContentValue) → element ≡ content_info_of ty content
+    → ty ≡ object_identifier id → kind ≡ named_content (identifier_contents id) → SpellsContent kind content value
+    → (info : EncapsulatedContentInfo) × (element ≡ content_info info)
 of_fields element ty content id kind value is named same spelled = (
   record { content_type = id; content = value; fits = subst (λ (k : ContentKind). HasKind k value) same spelled.0 },
   is ∙ ap (λ (t : DerElement). content_info_of t content) named ∙ ap (content_info_of (object_identifier id)) spelled.1,
 )
 
 -- the fields of the element encode those of the value
-pub by_fields : (element : DerElement) (ty : DerElement) (content : Option DerElement) (info : EncapsulatedContentInfo) → element ≡ content_info_of ty content → element ≡ content_info info
+pub by_fields : (element : DerElement) (ty : DerElement) (content : Option DerElement) (info : EncapsulatedContentInfo) → element ≡ content_info_of ty content
+    → element ≡ content_info info
     → (ty ≡ object_identifier info.content_type) × (content ≡ option_map content_value info.content)
-by_fields element ty content info is spelled = fields_once ty (object_identifier info.content_type) content (option_map content_value info.content) (sym is ∙ spelled)
+by_fields element ty content info is spelled =
+    fields_once ty (object_identifier info.content_type) content (option_map content_value info.content) (sym is ∙ spelled)
 
 -- the view taken from an element borrows its fields
-pub lies : (element ty : DerElement) (content : Option DerElement) (octets : List ℕ) → element ≡ content_info_of ty content → ty ≡ Primitive 0x06 octets → element ≡ lent_content octets content
+pub lies : (element ty : DerElement) (content : Option DerElement) (octets : List ℕ) → element ≡ content_info_of ty content → ty ≡ Primitive 0x06 octets
+    → element ≡ lent_content octets content
 lies element ty content octets is named = is ∙ ap (λ (t : DerElement). content_info_of t content) named
 
 -- what is known of an element is known of its fields

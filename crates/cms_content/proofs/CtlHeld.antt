@@ -50,31 +50,39 @@ held element (values.Other x) is = (x, list_printed kept_element 0x31 element x 
 held_of : (kind named : CtlKind) (element : DerElement) (vs : CTLEntryAttributeValues) → kind ≡ named → AreCtlValuesOf kind element vs → Held named element
 held_of kind named element vs is of = subst (λ (k : CtlKind). Held k element) (of.0 ∙ is) (held element vs of.1)
 
-pub hashes_of : (kind : CtlKind) (element : DerElement) (vs : CTLEntryAttributeValues) → kind ≡ kinds.CertSubjectNameMd5HashPropId → AreCtlValuesOf kind element vs → (xs : List (List ℕ)) × IsListOf 0x31 IsString element xs
+pub hashes_of : (kind : CtlKind) (element : DerElement) (vs : CTLEntryAttributeValues) → kind ≡ kinds.CertSubjectNameMd5HashPropId
+    → AreCtlValuesOf kind element vs → (xs : List (List ℕ)) × IsListOf 0x31 IsString element xs
 hashes_of kind element vs is of = held_of kind kinds.CertSubjectNameMd5HashPropId element vs is of
 
-pub times_of : (kind : CtlKind) (element : DerElement) (vs : CTLEntryAttributeValues) → kind ≡ kinds.CertDisallowedFileTimePropId → AreCtlValuesOf kind element vs → (xs : List (List ℕ)) × IsListOf 0x31 IsString element xs
+pub times_of : (kind : CtlKind) (element : DerElement) (vs : CTLEntryAttributeValues) → kind ≡ kinds.CertDisallowedFileTimePropId
+    → AreCtlValuesOf kind element vs → (xs : List (List ℕ)) × IsListOf 0x31 IsString element xs
 times_of kind element vs is of = held_of kind kinds.CertDisallowedFileTimePropId element vs is of
 
-pub starts_of : (kind : CtlKind) (element : DerElement) (vs : CTLEntryAttributeValues) → kind ≡ kinds.UnknownReservedPropId126 → AreCtlValuesOf kind element vs → (xs : List (List ℕ)) × IsListOf 0x31 IsString element xs
+pub starts_of : (kind : CtlKind) (element : DerElement) (vs : CTLEntryAttributeValues) → kind ≡ kinds.UnknownReservedPropId126 → AreCtlValuesOf kind element vs
+    → (xs : List (List ℕ)) × IsListOf 0x31 IsString element xs
 starts_of kind element vs is of = held_of kind kinds.UnknownReservedPropId126 element vs is of
 
-pub purposes_of : (kind : CtlKind) (element : DerElement) (vs : CTLEntryAttributeValues) → kind ≡ kinds.UnknownReservedPropId127 → AreCtlValuesOf kind element vs → (xs : List HeldPurposes) × IsListOf 0x31 IsHeld element xs
+pub purposes_of : (kind : CtlKind) (element : DerElement) (vs : CTLEntryAttributeValues) → kind ≡ kinds.UnknownReservedPropId127
+    → AreCtlValuesOf kind element vs → (xs : List HeldPurposes) × IsListOf 0x31 IsHeld element xs
 purposes_of kind element vs is of = held_of kind kinds.UnknownReservedPropId127 element vs is of
 
-pub others_of : (kind : CtlKind) (element : DerElement) (vs : CTLEntryAttributeValues) → kind ≡ kinds.Other → AreCtlValuesOf kind element vs → (xs : List KeptElement) × IsListOf 0x31 IsKeptElement element xs
+pub others_of : (kind : CtlKind) (element : DerElement) (vs : CTLEntryAttributeValues) → kind ≡ kinds.Other → AreCtlValuesOf kind element vs
+    → (xs : List KeptElement) × IsListOf 0x31 IsKeptElement element xs
 others_of kind element vs is of = held_of kind kinds.Other element vs is of
 
 -- ---- what is written for a list is written for the values
 
-pub set_written : {X : Type 0} (written : X → DerElement) (vs : CTLEntryAttributeValues) (xs : List X) (r : Result DerElement DerError) → ctl_values vs ≡ list_element 0x31 written xs
-    → MatchResult r (IsWrittenList 0x31 written (λ (x : X). []) xs) (RefusesInner (flat_map (λ (x : X). []) xs)) → MatchResult r (λ tree. (tree ≡ ctl_values vs) × IsWellFormed tree) (RefusesInner [])
+pub set_written : {X : Type 0} (written : X → DerElement) (vs : CTLEntryAttributeValues) (xs : List X) (r : Result DerElement DerError)
+    → ctl_values vs ≡ list_element 0x31 written xs
+    → MatchResult r (IsWrittenList 0x31 written (λ (x : X). []) xs) (RefusesInner (flat_map (λ (x : X). []) xs))
+    → MatchResult r (λ tree. (tree ≡ ctl_values vs) × IsWellFormed tree) (RefusesInner [])
 set_written written vs xs (Ok tree) is list = (list.is ∙ sym is, list.formed)
 set_written written vs xs (Err e) is refused = subst (λ i. RefusesInner i e) (none_inner xs) refused
 
 -- ---- extended key usages in a string
 
-pub no_purposes : (e : DerElement) (octets : List ℕ) (v : HeldPurposes) → e ≡ octet_string octets → e ≡ held_purposes v → ((purposes : List ObjectIdentifier) → ArePurposesIn octets purposes → ⊥) → ⊥
+pub no_purposes : (e : DerElement) (octets : List ℕ) (v : HeldPurposes) → e ≡ octet_string octets → e ≡ held_purposes v
+    → ((purposes : List ObjectIdentifier) → ArePurposesIn octets purposes → ⊥) → ⊥
 no_purposes e octets v at is none =
     let elements : octet_string v.octets ≡ octet_string octets = sym is ∙ at in
     let same : v.octets ≡ octets = cc in

@@ -19,7 +19,8 @@ module _ {X : Type 0} (holds : X → Type 0) (xs : List X) where
       let there : index ≡ other = omega (arith, before, more) in
       fails (subst holds (same_member index other x y there stands at) fits)
 
-  pub none_yet : (index next : ℕ) (x : X) → next ≡ suc index → HoldsOfNoneBefore holds xs index → slice_get xs index ≡ Some x → (holds x → ⊥) → HoldsOfNoneBefore holds xs next
+  pub none_yet : (index next : ℕ) (x : X) → next ≡ suc index → HoldsOfNoneBefore holds xs index → slice_get xs index ≡ Some x → (holds x → ⊥)
+      → HoldsOfNoneBefore holds xs next
   none_yet index next x e none stands fails other y before at fits =
       one_more index x none stands fails other y (omega (arith, before, e)) at fits (cases_lt other index)
 
@@ -42,7 +43,8 @@ module _ {X : Type 0} (holds : X → Type 0) (xs : List X) where
   pub first_or_none : (x : X) → IsFirst holds xs x → HoldsOfNone holds xs → ⊥
   first_or_none x first none = none first.index x first.stands first.fits
 
-  same_index : (x y : X) (p : IsFirst holds xs x) (q : IsFirst holds xs y) → (p.index < q.index) ⊎ (q.index ≤ p.index) → (q.index < p.index) ⊎ (p.index ≤ q.index) → x ≡ y
+  same_index : (x y : X) (p : IsFirst holds xs x) (q : IsFirst holds xs y) → (p.index < q.index) ⊎ (q.index ≤ p.index)
+      → (q.index < p.index) ⊎ (p.index ≤ q.index) → x ≡ y
   same_index x y p q (inl less) other = absurd (q.least p.index x less p.stands p.fits)
   same_index x y p q (inr more) (inl less) = absurd (p.least q.index y less q.stands q.fits)
   same_index x y p q (inr more) (inr less) = same_member q.index p.index y x (omega (arith, more, less)) q.stands p.stands

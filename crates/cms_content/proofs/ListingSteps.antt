@@ -1,5 +1,6 @@
 -- The steps of a listing: the result of each.
-use Rattle.std.proofs.Common.{◌≡◌, ◌↔◌, ◌⊎◌, ℕ, ℤ, ◌<◌, ◌≤◌, ◌<ℤ◌, ◌≤ℤ◌, List, [], ◌∷◌, length, Bool, true, false, not, IsTrue, Some, None, Result, Ok, Err, MatchResult, refl, sym, ap, subst, inl, inr, arith}
+use Rattle.std.proofs.Common.{◌≡◌, ◌↔◌, ◌⊎◌, ℕ, ℤ, ◌<◌, ◌≤◌, ◌<ℤ◌, ◌≤ℤ◌, List, [], ◌∷◌, length, Bool, true, false, not}
+use Rattle.std.proofs.Common.{IsTrue, Some, None, Result, Ok, Err, MatchResult, refl, sym, ap, subst, inl, inr, arith}
 use Rattle.std.specs.Prelude.{slice_get}
 use Rattle.std.proofs.lemmas.Bool.{false≢true}
 use Rattle.cms_content.specs.declared.ctl_entry.CTLEntry.{CTLEntry}
@@ -10,7 +11,8 @@ use Rattle.md5.specs.Md5.{md5}
 use Rattle.cms_content.specs.Attributes.{HasBegins, HasDigest, HasEnds, HasUsages}
 use Rattle.cms_content.specs.FileTime.{seconds_of}
 use Rattle.cms_content.specs.First.{HoldsOfNone, HoldsOfSome}
-use Rattle.cms_content.specs.Listing.{BeginsWell, EndsWell, HasNoBeginning, HasNoEnd, HasNoEntry, IsCodeSigning, IsEntryOf, IsListed, IsRevoked, IsForOthers, LacksTime, beginning_rules, end_rules, listing_rules}
+use Rattle.cms_content.specs.Listing.{BeginsWell, EndsWell, HasNoBeginning, HasNoEnd, HasNoEntry, IsCodeSigning, IsEntryOf}
+use Rattle.cms_content.specs.Listing.{IsListed, IsRevoked, IsForOthers, LacksTime, beginning_rules, end_rules, listing_rules}
 use Rattle.cms_content.specs.declared.listing.error.ListingError.{ListingError}
 use Rattle.cms_content.specs.declared.listing.error.ListingError.TheVariants as errors
 use Rattle.cms_content.proofs.FirstMembers.{first_or_none}
@@ -56,7 +58,8 @@ module _ (entry : CTLEntry) (now : ℤ) where
     pub revoked : length value < 8 → IsFirstBroken (end_rules entry now) errors.Revoked
     revoked short = inr (no_end_met value ends_with.0 ends_with.1, inl (value, ends_with.0, ends_with.1, short, refl))
 
-    pub ended : (seconds : ℤ) → 8 ≤ length value → seconds ≡ seconds_of value → seconds <ℤ now → IsFirstBroken (end_rules entry now) (errors.Expired seconds now)
+    pub ended : (seconds : ℤ) → 8 ≤ length value → seconds ≡ seconds_of value → seconds <ℤ now
+        → IsFirstBroken (end_rules entry now) (errors.Expired seconds now)
     ended seconds whole is less = inr (
       no_end_met value ends_with.0 ends_with.1,
       inr (
@@ -81,7 +84,8 @@ module _ (entry : CTLEntry) (now : ℤ) where
   pub begins_without : ((times : List (List ℕ)) → HasBegins entry times → ⊥) → BeginsWell entry now
   begins_without none times has = absurd (none times has)
 
-  pub beginning_missing : (times : List (List ℕ)) → HasBegins entry times → None ≡ slice_get times 0 → IsFirstBroken (beginning_rules entry now) errors.MalformedEntry
+  pub beginning_missing : (times : List (List ℕ)) → HasBegins entry times → None ≡ slice_get times 0
+      → IsFirstBroken (beginning_rules entry now) errors.MalformedEntry
   beginning_missing times has none = inl (times, has, subst LacksTime (sym (no_first times none)) tt, refl)
 
   whole_beginning : (value : List ℕ) (others : List (List ℕ)) → HasBegins entry (value ∷ others) → 8 ≤ length value → IsMet (HasNoBeginning entry)
@@ -98,7 +102,8 @@ module _ (entry : CTLEntry) (now : ℤ) where
     pub short_beginning : length value < 8 → IsFirstBroken (beginning_rules entry now) errors.MalformedEntry
     short_beginning short = inl (value ∷ begins_with.0, begins_with.1, short, refl)
 
-    pub too_early : (seconds : ℤ) → 8 ≤ length value → seconds ≡ seconds_of value → now <ℤ seconds → (IsForOthers entry → ⊥) → IsFirstBroken (beginning_rules entry now) (errors.NotYetValid seconds now)
+    pub too_early : (seconds : ℤ) → 8 ≤ length value → seconds ≡ seconds_of value → now <ℤ seconds → (IsForOthers entry → ⊥)
+        → IsFirstBroken (beginning_rules entry now) (errors.NotYetValid seconds now)
     too_early seconds whole is early said = inr (
       whole_beginning value begins_with.0 begins_with.1 whole,
       inl (record {
@@ -139,13 +144,15 @@ module _ (entry : CTLEntry) where
   flipped true P test = (λ on p. false≢true on, λ fails. absurd (fails (test.0 refl)))
   flipped false P test = (λ on p. false≢true (test.1 p), λ fails. refl)
 
-  pub said_of : (usages : List HeldPurposes) (usage : HeldPurposes) (b : Bool) → HasUsages entry usages → Some usage ≡ slice_get usages 0 → (IsTrue b ↔ HoldsOfSome IsCodeSigning usage.purposes) → IsTrue (not b) ↔ IsForOthers entry
+  pub said_of : (usages : List HeldPurposes) (usage : HeldPurposes) (b : Bool) → HasUsages entry usages → Some usage ≡ slice_get usages 0
+      → (IsTrue b ↔ HoldsOfSome IsCodeSigning usage.purposes) → IsTrue (not b) ↔ IsForOthers entry
   said_of usages usage b has first test =
       let split = some_first usages usage first in
       let there = subst (λ (us : List HeldPurposes). HasUsages entry us) split.1 has in
       let turned = flipped b (HoldsOfSome IsCodeSigning usage.purposes) test in (
         λ on. (usage, split.0, there, turned.0 on),
-        λ said. turned.1 (subst (λ (u : HeldPurposes). HoldsOfSome IsCodeSigning u.purposes → ⊥) (one_head_usage said.0 usage said.1 split.0 (usages_once entry (said.0 ∷ said.1) (usage ∷ split.0) said.2 there)) said.3),
+        λ said. turned.1 (subst (λ (u : HeldPurposes). HoldsOfSome IsCodeSigning u.purposes → ⊥)
+            (one_head_usage said.0 usage said.1 split.0 (usages_once entry (said.0 ∷ said.1) (usage ∷ split.0) said.2 there)) said.3),
       )
 
 -- ---- a name
@@ -157,10 +164,13 @@ module _ (entries : List CTLEntry) (name : List ℕ) (now : ℤ) where
   pub not_listed : HoldsOfNone (HasDigest (md5 name)) entries → IsFirstBroken (listing_rules entries name now) errors.NotListed
   not_listed none = inl (none, refl)
 
-  pub ends_badly : (entry : CTLEntry) (e : ListingError) → IsEntryOf entries name entry → IsFirstBroken (end_rules entry now) e → IsFirstBroken (listing_rules entries name now) e
+  pub ends_badly : (entry : CTLEntry) (e : ListingError) → IsEntryOf entries name entry → IsFirstBroken (end_rules entry now) e
+      → IsFirstBroken (listing_rules entries name now) e
   ends_badly entry e first broken = inr (entry_met entry first, inl (entry, first, broken_before (end_rules entry now) (beginning_rules entry now) e broken))
 
-  pub begins_or_not : {U : Type 0} (entry : CTLEntry) (r : Result U ListingError) → IsEntryOf entries name entry → EndsWell entry now → MatchResult r (λ _. BeginsWell entry now) (IsFirstBroken (beginning_rules entry now))
+  pub begins_or_not : {U : Type 0} (entry : CTLEntry) (r : Result U ListingError) → IsEntryOf entries name entry → EndsWell entry now
+      → MatchResult r (λ _. BeginsWell entry now) (IsFirstBroken (beginning_rules entry now))
       → MatchResult r (λ _. IsListed entries name now) (IsFirstBroken (listing_rules entries name now))
   begins_or_not entry (Ok v) first lasts begins = (entry, first, record { ends = lasts; begins = begins })
-  begins_or_not entry (Err e) first lasts broken = inr (entry_met entry first, inl (entry, first, broken_behind (end_rules entry now) (beginning_rules entry now) e (lasting_met entry now lasts) broken))
+  begins_or_not entry (Err e) first lasts broken =
+      inr (entry_met entry first, inl (entry, first, broken_behind (end_rules entry now) (beginning_rules entry now) e (lasting_met entry now lasts) broken))

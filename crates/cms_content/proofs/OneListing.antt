@@ -11,7 +11,8 @@ use Rattle.der_core.proofs.RuleLists.{AreMet, AreReturnedOnce, IsReturnedOnce, m
 use Rattle.md5.specs.Md5.{md5}
 use Rattle.cms_content.specs.Attributes.{HasBegins, HasDigest, HasEnds, HasUsages, IsOfKind}
 use Rattle.cms_content.specs.FileTime.{seconds_of}
-use Rattle.cms_content.specs.Listing.{BeginsEarlier, BeginsWell, EndsLater, EndsWell, HasBadEntry, HasEnded, HasNoBeginning, HasNoEnd, HasNoEntry, HasNotBegun, IsEntryOf, IsGoodEntry, IsListed, IsRevoked, LacksTime, beginning_rules, end_rules, entry_rules, listing_rules}
+use Rattle.cms_content.specs.Listing.{BeginsEarlier, BeginsWell, EndsLater, EndsWell, HasBadEntry, HasEnded, HasNoBeginning, HasNoEnd, HasNoEntry, HasNotBegun}
+use Rattle.cms_content.specs.Listing.{IsEntryOf, IsGoodEntry, IsListed, IsRevoked, LacksTime, beginning_rules, end_rules, entry_rules, listing_rules}
 use Rattle.cms_content.specs.declared.listing.error.ListingError.{ListingError}
 use Rattle.cms_content.specs.declared.listing.error.ListingError.TheVariants as errors
 use Rattle.cms_content.proofs.FirstMembers.{first_once, first_or_none}
@@ -79,7 +80,8 @@ module _ (entry : CTLEntry) (now : ℤ) where
 
   too_early : (e : ListingError) (broken : HasNotBegun entry now e) → BeginsEarlier entry now (broken.value ∷ broken.others) → ⊥
   too_early e broken (value, others, same, whole, inl earlier) =
-      let there : seconds_of broken.value ≤ℤ now = subst (λ (v : List ℕ). seconds_of v ≤ℤ now) (one_head value broken.value others broken.others (sym same)) earlier in
+      let there : seconds_of broken.value ≤ℤ now =
+      subst (λ (v : List ℕ). seconds_of v ≤ℤ now) (one_head value broken.value others broken.others (sym same)) earlier in
       omega (arith, ints, there, broken.early)
   too_early e broken (value, others, same, whole, inr said) = broken.applies said
 

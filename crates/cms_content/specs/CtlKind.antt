@@ -1,6 +1,7 @@
 -- The kinds of attributes of trust list entries, by OID.
 use Rattle.std.specs.Prelude.{ℕ, List, if◌then◌else◌, bytes_eq}
-use Rattle.asn1_types.specs.declared.oids.TheConstants.{CERT_SUBJECT_NAME_MD5_HASH, CERT_DISALLOWED_FILETIME, CERT_NOT_BEFORE_FILETIME, CERT_NOT_BEFORE_ENHKEY_USAGE}
+use Rattle.asn1_types.specs.declared.oids.TheConstants.{CERT_SUBJECT_NAME_MD5_HASH, CERT_DISALLOWED_FILETIME}
+use Rattle.asn1_types.specs.declared.oids.TheConstants.{CERT_NOT_BEFORE_FILETIME, CERT_NOT_BEFORE_ENHKEY_USAGE}
 use Rattle.cms_content.specs.declared.ctl_kind.CtlKind.{CtlKind}
 use Rattle.cms_content.specs.declared.ctl_kind.CtlKind.TheVariants as kinds
 

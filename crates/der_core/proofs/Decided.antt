@@ -1,5 +1,6 @@
 -- Octets begin with an element or have a fault, which can be decided.
-use Rattle.std.proofs.Common.{◌≡◌, ℕ, zero, suc, ◌+◌, ◌-◌, ◌≤◌, List, [], ◌∷◌, ◌++◌, length, Result, Ok, Err, refl, sym, ap, subst, ◌∙◌, append-nil, arith, inl, inr, ◌⊎◌}
+use Rattle.std.proofs.Common.{◌≡◌, ℕ, zero, suc, ◌+◌, ◌-◌, ◌≤◌, List, [], ◌∷◌, ◌++◌, length, Result}
+use Rattle.std.proofs.Common.{Ok, Err, refl, sym, ap, subst, ◌∙◌, append-nil, arith, inl, inr, ◌⊎◌}
 use Rattle.std.proofs.lemmas.Bool.{cases_eq}
 use Rattle.std.proofs.lemmas.List.{length-append}
 use Rattle.der_core.specs.declared.fault.DerFault.{DerFault}
@@ -28,12 +29,18 @@ IsOctets-back [] b fits = fits
 IsOctets-back (x ∷ a) b fits = IsOctets-back a b (λ i. fits (suc i))
 
 -- one more before elements, or before a fault
-one_more : (levels : ℕ) (octets : List ℕ) (has : HasElement levels octets) → HasElementsWithin levels has.1 ⊎ SomeKidsFault levels has.1 → HasElementsWithin levels octets ⊎ SomeKidsFault levels octets
+one_more : (levels : ℕ) (octets : List ℕ) (has : HasElement levels octets) → HasElementsWithin levels has.1 ⊎ SomeKidsFault levels has.1
+    → HasElementsWithin levels octets ⊎ SomeKidsFault levels octets
 one_more levels octets has (inl kids) =
-    inl (Cons has.0 kids.0, record { formed = (has.2.formed, kids.1.formed); nested = omega (arith, has.2.nested, kids.1.nested); short = (has.2.short, kids.1.short) }, has.3 ∙ ap (λ (o : List ℕ). encoding has.0 ++ o) kids.2)
+    inl (
+      Cons has.0 kids.0,
+      record { formed = (has.2.formed, kids.1.formed); nested = omega (arith, has.2.nested, kids.1.nested); short = (has.2.short, kids.1.short) },
+      has.3 ∙ ap (λ (o : List ℕ). encoding has.0 ++ o) kids.2,
+    )
 one_more levels octets has (inr fault) = inr (length (encoding has.0) + fault.0, fault.1, Next has.2 has.3 fault.2 refl)
 
-kids_decided : (levels fuel : ℕ) (octets : List ℕ) → ((o : List ℕ) → IsOctets o → HasElement levels o ⊎ SomeFault levels o) → length octets ≤ fuel → IsOctets octets → HasElementsWithin levels octets ⊎ SomeKidsFault levels octets
+kids_decided : (levels fuel : ℕ) (octets : List ℕ) → ((o : List ℕ) → IsOctets o → HasElement levels o ⊎ SomeFault levels o) → length octets ≤ fuel
+    → IsOctets octets → HasElementsWithin levels octets ⊎ SomeKidsFault levels octets
 kids_decided levels fuel [] decide enough fits = inl (Nil, record { formed = tt; nested = omega arith; short = tt }, refl)
 kids_decided levels zero (octet ∷ octets) decide enough fits = absurd (omega arith)
 kids_decided levels (suc fuel) (octet ∷ octets) decide enough fits =
@@ -48,19 +55,22 @@ contents_fit : (levels tag : ℕ) (octets contents rest : List ℕ) → HasHead 
 contents_fit levels tag octets contents rest head fits =
     IsOctets-back (tag ∷ length_octets (length contents)) contents (IsOctets-front (framed tag contents) rest (subst IsOctets head.parts fits))
 
-branch_decided : (l tag : ℕ) (octets contents rest : List ℕ) → head_at (suc l) octets ≡ Ok (tag, contents, rest) → HasHead (suc l) octets tag contents rest → form_bit tag ≡ 1 → HasElementsWithin l contents ⊎ SomeKidsFault l contents → HasElement (suc l) octets ⊎ SomeFault (suc l) octets
+branch_decided : (l tag : ℕ) (octets contents rest : List ℕ) → head_at (suc l) octets ≡ Ok (tag, contents, rest) → HasHead (suc l) octets tag contents rest
+    → form_bit tag ≡ 1 → HasElementsWithin l contents ⊎ SomeKidsFault l contents → HasElement (suc l) octets ⊎ SomeFault (suc l) octets
 branch_decided l tag octets contents rest found head bit (inl kids) =
     let same : l ≡ suc l - 1 = omega arith in
     let read = branch_read kids.0 head bit (subst (λ (m : ℕ). AreDerWithin m kids.0) same kids.1) kids.2 in
     inl (Constructed tag kids.0, rest, read.0, read.1)
 branch_decided l tag octets contents rest found head bit (inr fault) = inr (header_length contents + fault.0, fault.1, Inside found bit fault.2 refl)
 
-headed : (l : ℕ) → ((o : List ℕ) → IsOctets o → HasElement l o ⊎ SomeFault l o) → (octets : List ℕ) → IsOctets octets → (r : Result (ℕ × List ℕ × List ℕ) DerFault) → head_at (suc l) octets ≡ r → HasElement (suc l) octets ⊎ SomeFault (suc l) octets
+headed : (l : ℕ) → ((o : List ℕ) → IsOctets o → HasElement l o ⊎ SomeFault l o) → (octets : List ℕ) → IsOctets octets
+    → (r : Result (ℕ × List ℕ × List ℕ) DerFault) → head_at (suc l) octets ≡ r → HasElement (suc l) octets ⊎ SomeFault (suc l) octets
 headed l decide octets fits (Err fault) e = inr (0, fault, Here e)
 headed l decide octets fits (Ok h) e =
     let head = head_taken (suc l) octets h.0 h.1 h.2 fits e in
     elim (cases_eq (form_bit h.0) 1) [
-      | inl bit ↦ branch_decided l h.0 octets h.1 h.2 e head bit (kids_decided l (length h.1) h.1 decide (omega arith) (contents_fit (suc l) h.0 octets h.1 h.2 head fits))
+      | inl bit ↦ branch_decided l h.0 octets h.1 h.2 e head bit
+          (kids_decided l (length h.1) h.1 decide (omega arith) (contents_fit (suc l) h.0 octets h.1 h.2 head fits))
       | inr other ↦ let read = leaf_read head other in inl (Primitive h.0 h.1, h.2, read.0, read.1)
     ]
 

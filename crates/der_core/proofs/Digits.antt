@@ -1,5 +1,6 @@
 -- Octets in two digits each.
-use Rattle.std.proofs.Common.{◌≡◌, ℕ, zero, suc, Bool, true, ◌==◌, ◌&&◌, inl, inr, ◌+◌, ◌-◌, ◌^◌, ◌<◌, ◌/◌, ◌%◌, false, List, [], ◌∷◌, ◌++◌, length, take, slice_index, refl, sym, ap, ◌∙◌, Some, arith}
+use Rattle.std.proofs.Common.{◌≡◌, ℕ, zero, suc, Bool, true, ◌==◌, ◌&&◌, inl, inr, ◌+◌, ◌-◌, ◌^◌, ◌<◌, ◌/◌, ◌%◌}
+use Rattle.std.proofs.Common.{false, List, [], ◌∷◌, ◌++◌, length, take, slice_index, refl, sym, ap, ◌∙◌, Some, arith}
 use Rattle.std.specs.Fmt.{format_spec, digits, digit_glyph, digits_output, styled_digits_output}
 use Rattle.std.proofs.lemmas.Bool.{and_parts, cases_lt, eqb-true}
 use Rattle.std.proofs.lemmas.Fmt.{hex_byte}

@@ -1,5 +1,6 @@
 -- A head that is read is the head of an encoding, and the head of an encoding is read.
-use Rattle.std.proofs.Common.{◌≡◌, ℕ, suc, ◌%◌, ◌^◌, ◌<◌, ◌≤◌, false, cond, ltb, eqb, List, [], ◌∷◌, ◌++◌, length, take, drop, Result, Ok, Err, refl, sym, ap, subst, ◌∙◌, append_assoc, arith}
+use Rattle.std.proofs.Common.{◌≡◌, ℕ, suc, ◌%◌, ◌^◌, ◌<◌, ◌≤◌, false, cond, ltb, eqb, List, [], ◌∷◌, ◌++◌, length}
+use Rattle.std.proofs.Common.{take, drop, Result, Ok, Err, refl, sym, ap, subst, ◌∙◌, append_assoc, arith}
 use Rattle.std.proofs.lemmas.Bool.{ltb-false, le-ltb, eqb-false, ne_eqb}
 use Rattle.std.proofs.lemmas.List.{take_at, drop_at, take-append-drop, length-append, length-take-le}
 use Rattle.der_core.specs.Placed.{contents_octets}
@@ -13,14 +14,23 @@ use Rattle.der_core.proofs.Lengths.{bind_ok, guard_ok, HasLength, length_taken}
 
 -- ---- what was written is read again
 
-contents_again : (past : DerFault) (contents rest : List ℕ) → length contents < 2 ^ 32 → contents_at past ((length_octets (length contents) ++ contents) ++ rest) ≡ Ok (contents, rest)
+contents_again : (past : DerFault) (contents rest : List ℕ) → length contents < 2 ^ 32
+    → contents_at past ((length_octets (length contents) ++ contents) ++ rest) ≡ Ok (contents, rest)
 unfolding contents_at
 contents_again past contents rest short =
-    let regrouped : (length_octets (length contents) ++ contents) ++ rest ≡ length_octets (length contents) ++ (contents ++ rest) = append_assoc (length_octets (length contents)) contents rest in
+    let regrouped : (length_octets (length contents) ++ contents) ++ rest ≡ length_octets (length contents) ++ (contents ++ rest) =
+    append_assoc (length_octets (length contents)) contents rest in
     let there : ltb (length (contents ++ rest)) (length contents) ≡ false = le-ltb _ _ (omega (arith, length-append contents rest)) in
-    rw (regrouped, length_again past (length contents) (contents ++ rest) short, there, take_at contents rest (length contents) refl, drop_at contents rest (length contents) refl) refl
+    rw (
+      regrouped,
+      length_again past (length contents) (contents ++ rest) short,
+      there,
+      take_at contents rest (length contents) refl,
+      drop_at contents rest (length contents) refl,
+    ) refl
 
-pub framed_again : (levels tag : ℕ) (contents rest : List ℕ) → 0 < levels → IsTag tag → length contents < 2 ^ 32 → head_at levels (framed tag contents ++ rest) ≡ Ok (tag, contents, rest)
+pub framed_again : (levels tag : ℕ) (contents rest : List ℕ) → 0 < levels → IsTag tag → length contents < 2 ^ 32
+    → head_at levels (framed tag contents ++ rest) ≡ Ok (tag, contents, rest)
 unfolding head_at
 framed_again levels tag contents rest some is_tag short =
     let not_zero : eqb tag 0 ≡ false = ne_eqb _ _ is_tag.1 in
@@ -28,7 +38,8 @@ framed_again levels tag contents rest some is_tag short =
     let not_deep : eqb levels 0 ≡ false = ne_eqb _ _ (λ e. omega arith) in
     rw (not_zero, not_high, not_deep, contents_again (past_bound levels) contents rest short) refl
 
-pub head_again : (levels : ℕ) (a : DerElement) (rest : List ℕ) → IsDerWithin levels a → head_at levels (encoding a ++ rest) ≡ Ok (tag_of a, contents_octets a, rest)
+pub head_again : (levels : ℕ) (a : DerElement) (rest : List ℕ) → IsDerWithin levels a
+    → head_at levels (encoding a ++ rest) ≡ Ok (tag_of a, contents_octets a, rest)
 head_again levels (Primitive tag content) rest der = framed_again levels tag content rest der.nested der.formed.0 der.short
 head_again levels (Constructed tag kids) rest der = framed_again levels tag (encodings kids) rest (omega (arith, der.nested)) der.formed.0 der.short.0
 
@@ -44,11 +55,13 @@ length_then n octets after h enough =
     let len : length (take n after) ≡ n = length-take-le n after enough in
     let whole : after ≡ take n after ++ drop n after = sym (take-append-drop n after) in
     record {
-      parts = h.parts ∙ ap (λ (o : List ℕ). length_octets n ++ o) whole ∙ sym (append_assoc (length_octets n) (take n after) (drop n after)) ∙ ap (λ (m : ℕ). (length_octets m ++ take n after) ++ drop n after) (sym len);
+      parts = h.parts ∙ ap (λ (o : List ℕ). length_octets n ++ o) whole ∙ sym (append_assoc (length_octets n) (take n after) (drop n after))
+          ∙ ap (λ (m : ℕ). (length_octets m ++ take n after) ++ drop n after) (sym len);
       short = omega (arith, h.short);
     }
 
-contents_taken : (past : DerFault) (octets contents rest : List ℕ) → IsOctets octets → contents_at past octets ≡ Ok (contents, rest) → HasContents octets contents rest
+contents_taken : (past : DerFault) (octets contents rest : List ℕ) → IsOctets octets → contents_at past octets ≡ Ok (contents, rest)
+    → HasContents octets contents rest
 unfolding contents_at
 contents_taken past octets contents rest fits e =
     let b = bind_ok (length_at past octets) (λ n. cond (ltb (length n.1) n.0) (Err past) (Ok (take n.0 n.1, drop n.0 n.1))) (contents, rest) e in
@@ -57,16 +70,20 @@ contents_taken past octets contents rest fits e =
     (length_then b.0.0 octets b.0.1 (length_taken past octets b.0.0 b.0.1 fits b.1) (ltb-false _ _ g.0))
 
 -- a tag, and contents of the length that the octets after it begin with
-contents_then : (levels : ℕ) (past : DerFault) (tag : ℕ) (after contents rest : List ℕ) → 0 < levels → IsOctets (tag ∷ after) → contents_at past after ≡ Ok (contents, rest) → IsTag tag → HasHead levels (tag ∷ after) tag contents rest
+contents_then : (levels : ℕ) (past : DerFault) (tag : ℕ) (after contents rest : List ℕ) → 0 < levels → IsOctets (tag ∷ after)
+    → contents_at past after ≡ Ok (contents, rest) → IsTag tag → HasHead levels (tag ∷ after) tag contents rest
 contents_then levels past tag after contents rest some fits e is_tag =
     let c = contents_taken past after contents rest (λ i. fits (suc i)) e in
     record { parts = ap (λ (o : List ℕ). tag ∷ o) c.parts; is_tag = is_tag; short = c.short; some = some }
 
 -- a head whose contents and tag were tested
-pub sound_taken : (octets : List ℕ) (tag : ℕ) (after contents rest : List ℕ) → octets ≡ tag ∷ after → IsOctets octets → contents_at Truncated after ≡ Ok (contents, rest) → IsTag tag → HasHead 64 octets tag contents rest
-sound_taken octets tag after contents rest are fits e is_tag = rw are (contents_then 64 Truncated tag after contents rest (omega arith) (rw are at fits) e is_tag)
+pub sound_taken : (octets : List ℕ) (tag : ℕ) (after contents rest : List ℕ) → octets ≡ tag ∷ after → IsOctets octets
+    → contents_at Truncated after ≡ Ok (contents, rest) → IsTag tag → HasHead 64 octets tag contents rest
+sound_taken octets tag after contents rest are fits e is_tag =
+    rw are (contents_then 64 Truncated tag after contents rest (omega arith) (rw are at fits) e is_tag)
 
-pub head_taken : (levels : ℕ) (octets : List ℕ) (tag : ℕ) (contents rest : List ℕ) → IsOctets octets → head_at levels octets ≡ Ok (tag, contents, rest) → HasHead levels octets tag contents rest
+pub head_taken : (levels : ℕ) (octets : List ℕ) (tag : ℕ) (contents rest : List ℕ) → IsOctets octets → head_at levels octets ≡ Ok (tag, contents, rest)
+    → HasHead levels octets tag contents rest
 unfolding head_at
 head_taken levels [] tag contents rest fits e = absurd cc
 head_taken levels (first ∷ octets) tag contents rest fits e =
@@ -89,7 +106,8 @@ pub record IsKnownHead (octets : List ℕ) (tag : ℕ) (after : List ℕ) (n : �
   pub enough : n ≤ length rest
   pub read : head_at 64 octets ≡ Ok (tag, take n rest, drop n rest)
 
-known_contents : (past : DerFault) (octets : List ℕ) (c : List ℕ × List ℕ) → contents_at past octets ≡ Ok c → (n : ℕ) × (rest : List ℕ) × (length_at past octets ≡ Ok (n, rest)) × (n ≤ length rest) × ((take n rest, drop n rest) ≡ c)
+known_contents : (past : DerFault) (octets : List ℕ) (c : List ℕ × List ℕ) → contents_at past octets ≡ Ok c
+    → (n : ℕ) × (rest : List ℕ) × (length_at past octets ≡ Ok (n, rest)) × (n ≤ length rest) × ((take n rest, drop n rest) ≡ c)
 unfolding contents_at
 known_contents past octets c e =
     let b = bind_ok (length_at past octets) (λ n. cond (ltb (length n.1) n.0) (Err past) (Ok (take n.0 n.1, drop n.0 n.1))) c e in
@@ -114,14 +132,16 @@ known_head_at tag after begins =
       },
     )
 
-known_there : (octets : List ℕ) (tag : ℕ) (after : List ℕ) → octets ≡ tag ∷ after → BeginsWithHead octets → (n : ℕ) × (rest : List ℕ) × IsKnownHead octets tag after n rest
+known_there : (octets : List ℕ) (tag : ℕ) (after : List ℕ) → octets ≡ tag ∷ after → BeginsWithHead octets
+    → (n : ℕ) × (rest : List ℕ) × IsKnownHead octets tag after n rest
 known_there octets tag after are begins = rw are (known_head_at tag after (rw are at begins))
 
 pub known_length_there : (octets : List ℕ) (tag : ℕ) (after : List ℕ) → octets ≡ tag ∷ after → BeginsWithHead octets → BeginsWithLength after
 known_length_there octets tag after are begins = let k = known_there octets tag after are begins in (k.0, k.1, k.2.length_is)
 
 -- what is read by a length that was read
-pub known_head_is : (octets : List ℕ) (tag : ℕ) (after : List ℕ) (n : ℕ) (rest : List ℕ) → octets ≡ tag ∷ after → BeginsWithHead octets → length_at Truncated after ≡ Ok (n, rest) → IsKnownHead octets tag after n rest
+pub known_head_is : (octets : List ℕ) (tag : ℕ) (after : List ℕ) (n : ℕ) (rest : List ℕ) → octets ≡ tag ∷ after → BeginsWithHead octets
+    → length_at Truncated after ≡ Ok (n, rest) → IsKnownHead octets tag after n rest
 known_head_is octets tag after n rest are begins e =
     let k = known_there octets tag after are begins in
     subst (λ (p : ℕ × List ℕ). IsKnownHead octets tag after p.0 p.1) (ok_is (k.0, k.1) (n, rest) (sym k.2.length_is ∙ e)) k.2

@@ -21,7 +21,8 @@ kids_there' whole tag content (Constructed t kids) is bit = (listed kids, (kids_
 pub kids_there : (whole : List ℕ) (tag : ℕ) (content : List ℕ) → HasElem whole tag content → form_bit tag ≡ 1 → HasElems content
 kids_there whole tag content h bit = kids_there' whole tag content h.0 h.1 bit
 
-pub kids_are : (whole : List ℕ) (tag : ℕ) (content : List ℕ) (a : DerElement) (kids : List DerElement) → IsElem whole tag content a → form_bit tag ≡ 1 → AreElems content kids → kids_of a ≡ Some kids
+pub kids_are : (whole : List ℕ) (tag : ℕ) (content : List ℕ) (a : DerElement) (kids : List DerElement) → IsElem whole tag content a → form_bit tag ≡ 1
+    → AreElems content kids → kids_of a ≡ Some kids
 kids_are whole tag content (Primitive t octets) ks is bit k = absurd (omega (arith, is.0.formed.1, ap form_bit is.2))
 kids_are whole tag content (Constructed t kids) ks is bit k =
     ap Some (same_elements (listed kids) ks (kids_in_bounds t kids is.0) k.0 (ap encodings (row-listed kids) ∙ sym is.3 ∙ k.1))
@@ -67,7 +68,8 @@ pub record IsNext (octets : List ℕ) (elements : List DerElement) (n tag : ℕ)
   pub is : IsElem (take n octets) tag contents element
   pub left : AreElems after others
 
-first_of' : (octets : List ℕ) (elements : List DerElement) (tag : ℕ) (contents after : List ℕ) → AreElems octets elements → head_at 64 octets ≡ Ok (tag, contents, after)
+first_of' : (octets : List ℕ) (elements : List DerElement) (tag : ℕ) (contents after : List ℕ) → AreElems octets elements
+    → head_at 64 octets ≡ Ok (tag, contents, after)
     → IsNext octets elements (length octets - length after) tag contents after
 first_of' octets [] tag contents after are head =
     let none : octets ≡ [] = are.1 in
@@ -83,21 +85,29 @@ first_of' octets (a ∷ elements) tag contents after are head =
       element = a;
       others = elements;
       are = refl;
-      is = (are.0.0, ap (take (length octets - length after)) are.1 ∙ take_at (encoding a) rest (length octets - length after) many, ap (λ (p : ℕ × List ℕ × List ℕ). p.0) same, ap (λ (p : ℕ × List ℕ × List ℕ). p.1) same);
+      is = (
+        are.0.0,
+        ap (take (length octets - length after)) are.1 ∙ take_at (encoding a) rest (length octets - length after) many,
+        ap (λ (p : ℕ × List ℕ × List ℕ). p.0) same,
+        ap (λ (p : ℕ × List ℕ × List ℕ). p.1) same,
+      );
       left = (are.0.1, same_after);
     }
 
-pub first_there : (octets : List ℕ) (k : HasElems octets) (tag : ℕ) (contents after : List ℕ) → head_at 64 octets ≡ Ok (tag, contents, after) → IsNext octets k.0 (length octets - length after) tag contents after
+pub first_there : (octets : List ℕ) (k : HasElems octets) (tag : ℕ) (contents after : List ℕ) → head_at 64 octets ≡ Ok (tag, contents, after)
+    → IsNext octets k.0 (length octets - length after) tag contents after
 first_there octets k tag contents after head = first_of' octets k.0 tag contents after k.1 head
 
 -- the elements are the first and those after it, whatever the proof
-pub next_are : (octets : List ℕ) (k : HasElems octets) (tag : ℕ) (contents after whole : List ℕ) (element : DerElement) (others : List DerElement) → head_at 64 octets ≡ Ok (tag, contents, after)
+pub next_are : (octets : List ℕ) (k : HasElems octets) (tag : ℕ) (contents after whole : List ℕ) (element : DerElement) (others : List DerElement)
+    → head_at 64 octets ≡ Ok (tag, contents, after)
     → whole ≡ take (length octets - length after) octets → IsElem whole tag contents element → AreElems after others → k.0 ≡ element ∷ others
 next_are octets k tag contents after whole element others head front e l =
     let n = first_there octets k tag contents after head in
     let here : HasElem whole tag contents = (n.element, subst (λ w. IsElem w tag contents n.element) (sym front) n.is) in
     let then : HasElems after = (n.others, n.left) in
-    n.are ∙ ap (λ (h : HasElem whole tag contents). h.0 ∷ n.others) (HasElem-prop whole tag contents here (element, e)) ∙ ap (λ (h : HasElems after). element ∷ h.0) (HasElems-prop after then (others, l))
+    n.are ∙ ap (λ (h : HasElem whole tag contents). h.0 ∷ n.others) (HasElem-prop whole tag contents here (element, e))
+    ∙ ap (λ (h : HasElems after). element ∷ h.0) (HasElems-prop after then (others, l))
 
 -- octets of length 0 are empty
 pub no_length : (octets : List ℕ) → length octets ≡ 0 → octets ≡ []
@@ -106,9 +116,13 @@ no_length (o ∷ octets) e = absurd (omega (arith, e))
 
 -- ---- tests of octets
 
-pub one_more_first : (levels : ℕ) (octets after : List ℕ) (a : DerElement) → IsDerWithin levels a → octets ≡ encoding a ++ after → HasElementsWithin levels after → HasElementsWithin levels octets
-one_more_first levels octets after a der parts has =
-    (Cons a has.0, record { formed = (der.formed, has.1.formed); nested = omega (arith, der.nested, has.1.nested); short = (der.short, has.1.short) }, parts ∙ ap (λ (o : List ℕ). encoding a ++ o) has.2)
+pub one_more_first : (levels : ℕ) (octets after : List ℕ) (a : DerElement) → IsDerWithin levels a → octets ≡ encoding a ++ after
+    → HasElementsWithin levels after → HasElementsWithin levels octets
+one_more_first levels octets after a der parts has = (
+  Cons a has.0,
+  record { formed = (der.formed, has.1.formed); nested = omega (arith, der.nested, has.1.nested); short = (der.short, has.1.short) },
+  parts ∙ ap (λ (o : List ℕ). encoding a ++ o) has.2,
+)
 
 pub no_elements : (levels : ℕ) (octets : List ℕ) → octets ≡ [] → HasElementsWithin levels octets
 no_elements levels octets none = (Nil, record { formed = tt; nested = omega arith; short = tt }, none)
@@ -116,7 +130,8 @@ no_elements levels octets none = (Nil, record { formed = tt; nested = omega arit
 -- ---- the first element of octets that were tested
 
 -- the one element in a prefix of the octets is the first of them
-pub first_elem : (octets rest front whole : List ℕ) (tag : ℕ) (content : List ℕ) (a : DerElement) (elements : List DerElement) (k : AreElems front elements) (element : DerElement) (e : IsElem whole tag content element) (others : List DerElement) → IsDer a → octets ≡ encoding a ++ rest
+pub first_elem : (octets rest front whole : List ℕ) (tag : ℕ) (content : List ℕ) (a : DerElement) (elements : List DerElement) (k : AreElems front elements)
+    (element : DerElement) (e : IsElem whole tag content element) (others : List DerElement) → IsDer a → octets ≡ encoding a ++ rest
     → front ≡ take (length octets - length rest) octets → elements ≡ element ∷ others → IsFirst octets element (length whole)
 first_elem octets rest front whole tag content a elements k element e others der parts is are =
     let many : length (encoding a) ≡ length octets - length rest = omega (arith, ap length parts, length-append (encoding a) rest) in
@@ -127,16 +142,24 @@ first_elem octets rest front whole tag content a elements k element e others der
     record {
       der = e.0;
       many = ap length e.1;
-      front = ap (λ n. take n octets) (ap length whole_is) ∙ ap (take (length (encoding a))) parts ∙ take_at (encoding a) rest (length (encoding a)) refl ∙ sym (ap encoding same);
+      front = ap (λ n. take n octets) (ap length whole_is) ∙ ap (take (length (encoding a))) parts ∙ take_at (encoding a) rest (length (encoding a)) refl
+          ∙ sym (ap encoding same);
     }
 
 -- a prefix of the octets that is the encoding of an element holds that element
-pub one_alone : (octets rest front : List ℕ) (a : DerElement) → IsDer a → octets ≡ encoding a ++ rest → front ≡ take (length octets - length rest) octets → HasElems front
+pub one_alone : (octets rest front : List ℕ) (a : DerElement) → IsDer a → octets ≡ encoding a ++ rest → front ≡ take (length octets - length rest) octets
+    → HasElems front
 one_alone octets rest front a der parts is =
-    let many : length (encoding a) ≡ length octets - length rest = omega (arith, ap length parts, length-append (encoding a) rest) in
-    (a ∷ [], ((der, tt), is ∙ ap (take (length octets - length rest)) parts ∙ take_at (encoding a) rest (length octets - length rest) many ∙ sym (append-nil (encoding a))))
+    let many : length (encoding a) ≡ length octets - length rest = omega (arith, ap length parts, length-append (encoding a) rest) in (
+      a ∷ [],
+      (
+        (der, tt),
+        is ∙ ap (take (length octets - length rest)) parts ∙ take_at (encoding a) rest (length octets - length rest) many ∙ sym (append-nil (encoding a)),
+      ),
+    )
 
-pub not_none : (octets rest front : List ℕ) (a : DerElement) (elements : List DerElement) (k : AreElems front elements) → octets ≡ encoding a ++ rest → front ≡ take (length octets - length rest) octets → elements ≡ [] → ⊥
+pub not_none : (octets rest front : List ℕ) (a : DerElement) (elements : List DerElement) (k : AreElems front elements) → octets ≡ encoding a ++ rest
+    → front ≡ take (length octets - length rest) octets → elements ≡ [] → ⊥
 not_none octets rest front a elements k parts is none =
     let many : length (encoding a) ≡ length octets - length rest = omega (arith, ap length parts, length-append (encoding a) rest) in
     let here : front ≡ encoding a = is ∙ ap (take (length octets - length rest)) parts ∙ take_at (encoding a) rest (length octets - length rest) many in
@@ -147,10 +170,14 @@ not_none octets rest front a elements k parts is none =
 pub one_kept : (octets lent : List ℕ) → Kept octets → lent ≡ octets → HasElems lent
 one_kept octets lent kept same = (kept.0 ∷ [], ((kept.1.0, tt), same ∙ kept.1.1 ∙ sym (append-nil (encoding kept.0))))
 
-pub kept_first : (octets lent : List ℕ) (element : DerElement) (elements : List DerElement) (e : DerElement) (others : List DerElement) → IsKept octets element → lent ≡ octets → AreElems lent elements → elements ≡ e ∷ others → e ≡ element
+pub kept_first : (octets lent : List ℕ) (element : DerElement) (elements : List DerElement) (e : DerElement) (others : List DerElement) → IsKept octets element
+    → lent ≡ octets → AreElems lent elements → elements ≡ e ∷ others → e ≡ element
 kept_first octets lent element elements e others kept same are parts =
-    let one : elements ≡ element ∷ [] = same_elements elements (element ∷ []) are.0 (kept.0, tt) (sym are.1 ∙ same ∙ kept.1 ∙ sym (append-nil (encoding element))) in
+    let one : elements ≡ element ∷ [] =
+    same_elements elements (element ∷ []) are.0 (kept.0, tt) (sym are.1 ∙ same ∙ kept.1 ∙ sym (append-nil (encoding element))) in
     cc
 
-pub kept_not_none : (octets lent : List ℕ) (element : DerElement) (elements : List DerElement) → IsKept octets element → lent ≡ octets → AreElems lent elements → elements ≡ [] → ⊥
-kept_not_none octets lent element elements kept same are none = omega (arith, some_octets element, ap length kept.1, ap length same, ap length (some_left lent (elements, are) none))
+pub kept_not_none : (octets lent : List ℕ) (element : DerElement) (elements : List DerElement) → IsKept octets element → lent ≡ octets → AreElems lent elements
+    → elements ≡ [] → ⊥
+kept_not_none octets lent element elements kept same are none =
+    omega (arith, some_octets element, ap length kept.1, ap length same, ap length (some_left lent (elements, are) none))

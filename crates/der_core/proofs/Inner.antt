@@ -8,10 +8,12 @@ use Rattle.der_core.specs.Facts.Grammars.{AreDer-append}
 use Rattle.der_core.specs.Refusals.{IsFirstUnwritable, RefusesInner}
 use Rattle.der_core.specs.Writing.{RefusesToWrite}
 
-first_among : (before inner after : List DerElement) (e : DerError) → AreDer before → IsFirstUnwritable inner e → IsFirstUnwritable (before ++ (inner ++ after)) e
+first_among : (before inner after : List DerElement) (e : DerError) → AreDer before → IsFirstUnwritable inner e
+    → IsFirstUnwritable (before ++ (inner ++ after)) e
 first_among before inner after e der (b, element, a, parts, der', refused) =
     let inside : inner ++ after ≡ b ++ element ∷ (a ++ after) = ap (λ i. i ++ after) parts ∙ append_assoc b (element ∷ a) after in
-    let whole : before ++ (inner ++ after) ≡ (before ++ b) ++ element ∷ (a ++ after) = ap (λ i. before ++ i) inside ∙ sym (append_assoc before b (element ∷ (a ++ after))) in
+    let whole : before ++ (inner ++ after) ≡ (before ++ b) ++ element ∷ (a ++ after) = ap (λ i. before ++ i) inside
+    ∙ sym (append_assoc before b (element ∷ (a ++ after))) in
     (before ++ b, element, a ++ after, whole, AreDer-append before b der der', refused)
 
 -- what prevents a part from being written prevents the whole, if all before it can be written

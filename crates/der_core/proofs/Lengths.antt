@@ -1,5 +1,6 @@
 -- A length that is read is encoded as it is written.
-use Rattle.std.proofs.Common.{◌≡◌, ℕ, suc, ◌+◌, ◌-◌, ◌/◌, ◌%◌, ◌^◌, ◌<◌, ◌≤◌, Bool, true, false, cond, ltb, eqb, List, [], ◌∷◌, ◌++◌, length, take, drop, Result, Ok, Err, refl, sym, ap, ◌∙◌, arith, inl, inr, ◌⊎◌}
+use Rattle.std.proofs.Common.{◌≡◌, ℕ, suc, ◌+◌, ◌-◌, ◌/◌, ◌%◌, ◌^◌, ◌<◌, ◌≤◌, Bool, true, false, cond, ltb, eqb, List, []}
+use Rattle.std.proofs.Common.{◌∷◌, ◌++◌, length, take, drop, Result, Ok, Err, refl, sym, ap, ◌∙◌, arith, inl, inr, ◌⊎◌}
 use Rattle.std.proofs.lemmas.Bool.{cases_lt, cases_Bool, ltb-true, ltb-false, lt-ltb, le-ltb, eqb-true}
 use Rattle.std.proofs.lemmas.List.{take-append-drop, length-take-le, get_or_append_left, get_or_past}
 use Rattle.der_core.specs.declared.fault.DerFault.{DerFault}
@@ -29,11 +30,14 @@ record Digits (count least : ℕ) (octets : List ℕ) (n : ℕ) (rest : List ℕ
   value : number_from 0 digits ≡ n
   enough : least ≤ n
 
-long_taken : (count least : ℕ) (past : DerFault) (octets : List ℕ) (n : ℕ) (rest : List ℕ) → long_length_at count least past octets ≡ Ok (n, rest) → Digits count least octets n rest
+long_taken : (count least : ℕ) (past : DerFault) (octets : List ℕ) (n : ℕ) (rest : List ℕ) → long_length_at count least past octets ≡ Ok (n, rest)
+    → Digits count least octets n rest
 unfolding long_length_at
 long_taken count least past octets n rest e =
-    let there = guard_ok (ltb (length octets) count) past (cond (ltb (number_from 0 (take count octets)) least) (Err NotShortest) (Ok (number_from 0 (take count octets), drop count octets))) (n, rest) e in
-    let shortest = guard_ok (ltb (number_from 0 (take count octets)) least) NotShortest (Ok (number_from 0 (take count octets), drop count octets)) (n, rest) there.1 in
+    let there = guard_ok (ltb (length octets) count) past
+    (cond (ltb (number_from 0 (take count octets)) least) (Err NotShortest) (Ok (number_from 0 (take count octets), drop count octets))) (n, rest) e in
+    let shortest = guard_ok (ltb (number_from 0 (take count octets)) least) NotShortest (Ok (number_from 0 (take count octets), drop count octets))
+    (n, rest) there.1 in
     let both = ok_is (number_from 0 (take count octets), drop count octets) (n, rest) shortest.1 in
     let value : number_from 0 (take count octets) ≡ n = ap (λ (p : ℕ × List ℕ). p.0) both in
     let after : drop count octets ≡ rest = ap (λ (p : ℕ × List ℕ). p.1) both in
@@ -46,7 +50,8 @@ long_taken count least past octets n rest e =
     }
 
 -- digits that are the octets of their number
-written_1 : (digits : List ℕ) (n : ℕ) → length digits ≡ 1 → IsOctets digits → number_from 0 digits ≡ n → 2 ^ 7 ≤ n → (129 ∷ digits ≡ length_octets n) × (n < 2 ^ 32)
+written_1 : (digits : List ℕ) (n : ℕ) → length digits ≡ 1 → IsOctets digits → number_from 0 digits ≡ n → 2 ^ 7 ≤ n
+    → (129 ∷ digits ≡ length_octets n) × (n < 2 ^ 32)
 unfolding length_octets
 written_1 [] n len fits value enough = absurd (omega arith)
 written_1 (a ∷ []) n len fits value enough =
@@ -57,7 +62,8 @@ written_1 (a ∷ []) n len fits value enough =
     (rw (f7, t8) (cc), omega arith)
 written_1 (a ∷ b ∷ more) n len fits value enough = absurd (omega arith)
 
-written_2 : (digits : List ℕ) (n : ℕ) → length digits ≡ 2 → IsOctets digits → number_from 0 digits ≡ n → 2 ^ 8 ≤ n → (130 ∷ digits ≡ length_octets n) × (n < 2 ^ 32)
+written_2 : (digits : List ℕ) (n : ℕ) → length digits ≡ 2 → IsOctets digits → number_from 0 digits ≡ n → 2 ^ 8 ≤ n
+    → (130 ∷ digits ≡ length_octets n) × (n < 2 ^ 32)
 unfolding length_octets
 written_2 [] n len fits value enough = absurd (omega arith)
 written_2 (a ∷ []) n len fits value enough = absurd (omega arith)
@@ -72,7 +78,8 @@ written_2 (a ∷ b ∷ []) n len fits value enough =
     (rw (f7, f8, t16) (cc), omega arith)
 written_2 (a ∷ b ∷ c ∷ more) n len fits value enough = absurd (omega arith)
 
-written_3 : (digits : List ℕ) (n : ℕ) → length digits ≡ 3 → IsOctets digits → number_from 0 digits ≡ n → 2 ^ 16 ≤ n → (131 ∷ digits ≡ length_octets n) × (n < 2 ^ 32)
+written_3 : (digits : List ℕ) (n : ℕ) → length digits ≡ 3 → IsOctets digits → number_from 0 digits ≡ n → 2 ^ 16 ≤ n
+    → (131 ∷ digits ≡ length_octets n) × (n < 2 ^ 32)
 unfolding length_octets
 written_3 [] n len fits value enough = absurd (omega arith)
 written_3 (a ∷ []) n len fits value enough = absurd (omega arith)
@@ -91,7 +98,8 @@ written_3 (a ∷ b ∷ c ∷ []) n len fits value enough =
     (rw (f7, f8, f16, t24) (cc), omega arith)
 written_3 (a ∷ b ∷ c ∷ d ∷ more) n len fits value enough = absurd (omega arith)
 
-written_4 : (digits : List ℕ) (n : ℕ) → length digits ≡ 4 → IsOctets digits → number_from 0 digits ≡ n → 2 ^ 24 ≤ n → (132 ∷ digits ≡ length_octets n) × (n < 2 ^ 32)
+written_4 : (digits : List ℕ) (n : ℕ) → length digits ≡ 4 → IsOctets digits → number_from 0 digits ≡ n → 2 ^ 24 ≤ n
+    → (132 ∷ digits ≡ length_octets n) × (n < 2 ^ 32)
 unfolding length_octets
 written_4 [] n len fits value enough = absurd (omega arith)
 written_4 (a ∷ []) n len fits value enough = absurd (omega arith)
@@ -126,7 +134,8 @@ IsOctets-front a b fits i =
     ]
 
 long_case : (count least first mark : ℕ) (past : DerFault) (octets : List ℕ) (n : ℕ) (rest : List ℕ) →
-    ((digits : List ℕ) (m : ℕ) → length digits ≡ count → IsOctets digits → number_from 0 digits ≡ m → least ≤ m → (mark ∷ digits ≡ length_octets m) × (m < 2 ^ 32)) →
+    ((digits : List ℕ) (m : ℕ) → length digits ≡ count → IsOctets digits → number_from 0 digits ≡ m → least ≤ m
+    → (mark ∷ digits ≡ length_octets m) × (m < 2 ^ 32)) →
     first ≡ mark → IsOctets octets → long_length_at count least past octets ≡ Ok (n, rest) → HasLength (first ∷ octets) n rest
 long_case count least first mark past octets n rest written same fits e =
     let d = long_taken count least past octets n rest e in
@@ -145,7 +154,8 @@ short_taken first n octets rest lt e =
     let t : ltb n (2 ^ 7) ≡ true = lt-ltb _ _ (omega arith) in
     record { parts = rw t cc; short = omega arith }
 
-pub length_taken : (past : DerFault) (octets : List ℕ) (n : ℕ) (rest : List ℕ) → IsOctets octets → length_at past octets ≡ Ok (n, rest) → HasLength octets n rest
+pub length_taken : (past : DerFault) (octets : List ℕ) (n : ℕ) (rest : List ℕ) → IsOctets octets → length_at past octets ≡ Ok (n, rest)
+    → HasLength octets n rest
 unfolding length_at
 length_taken past [] n rest fits e = absurd cc
 length_taken past (first ∷ octets) n rest fits e =
@@ -184,11 +194,14 @@ pub record IsLongForm (first : ℕ) (rest : List ℕ) (n : ℕ) (after : List �
   pub value : number_from 0 (take (first - 128) rest) ≡ n
   pub left : drop (first - 128) rest ≡ after
 
-long_form : (count least first : ℕ) (past : DerFault) (rest : List ℕ) (n : ℕ) (after : List ℕ) → count ≤ 4 → first ≡ 128 + count → long_length_at count least past rest ≡ Ok (n, after) → IsLongForm first rest n after
+long_form : (count least first : ℕ) (past : DerFault) (rest : List ℕ) (n : ℕ) (after : List ℕ) → count ≤ 4 → first ≡ 128 + count
+    → long_length_at count least past rest ≡ Ok (n, after) → IsLongForm first rest n after
 unfolding long_length_at
 long_form count least first past rest n after few same e =
-    let there = guard_ok (ltb (length rest) count) past (cond (ltb (number_from 0 (take count rest)) least) (Err NotShortest) (Ok (number_from 0 (take count rest), drop count rest))) (n, after) e in
-    let shortest = guard_ok (ltb (number_from 0 (take count rest)) least) NotShortest (Ok (number_from 0 (take count rest), drop count rest)) (n, after) there.1 in
+    let there = guard_ok (ltb (length rest) count) past
+    (cond (ltb (number_from 0 (take count rest)) least) (Err NotShortest) (Ok (number_from 0 (take count rest), drop count rest))) (n, after) e in
+    let shortest = guard_ok (ltb (number_from 0 (take count rest)) least) NotShortest (Ok (number_from 0 (take count rest), drop count rest))
+    (n, after) there.1 in
     let both = ok_is (number_from 0 (take count rest), drop count rest) (n, after) shortest.1 in
     let many : first - 128 ≡ count = omega arith in
     record {
@@ -198,7 +211,8 @@ long_form count least first past rest n after few same e =
       left = rw many (ap (λ (p : ℕ × List ℕ). p.1) both);
     }
 
-pub long_there : (past : DerFault) (first : ℕ) (rest : List ℕ) (n : ℕ) (after : List ℕ) → 128 ≤ first → length_at past (first ∷ rest) ≡ Ok (n, after) → IsLongForm first rest n after
+pub long_there : (past : DerFault) (first : ℕ) (rest : List ℕ) (n : ℕ) (after : List ℕ) → 128 ≤ first → length_at past (first ∷ rest) ≡ Ok (n, after)
+    → IsLongForm first rest n after
 unfolding length_at
 long_there past first rest n after long e =
     let f7 : ltb first (2 ^ 7) ≡ false = le-ltb _ _ long in
@@ -225,12 +239,14 @@ long_there past first rest n after long e =
     ]
 
 -- a length that is known, and what follows it in the long form
-pub long_known : (octets : List ℕ) (first : ℕ) (rest : List ℕ) → octets ≡ first ∷ rest → 128 ≤ first → BeginsWithLength octets → IsLongForm first rest (number_from 0 (take (first - 128) rest)) (drop (first - 128) rest)
+pub long_known : (octets : List ℕ) (first : ℕ) (rest : List ℕ) → octets ≡ first ∷ rest → 128 ≤ first → BeginsWithLength octets
+    → IsLongForm first rest (number_from 0 (take (first - 128) rest)) (drop (first - 128) rest)
 long_known octets first rest are long begins =
     let form = long_there Truncated first rest begins.0 begins.1 long (rw are at begins.2) in
     record { few = form.few; there = form.there; value = refl; left = refl }
 
-pub long_read : (octets : List ℕ) (first : ℕ) (rest : List ℕ) → octets ≡ first ∷ rest → 128 ≤ first → BeginsWithLength octets → length_at Truncated octets ≡ Ok (number_from 0 (take (first - 128) rest), drop (first - 128) rest)
+pub long_read : (octets : List ℕ) (first : ℕ) (rest : List ℕ) → octets ≡ first ∷ rest → 128 ≤ first → BeginsWithLength octets
+    → length_at Truncated octets ≡ Ok (number_from 0 (take (first - 128) rest), drop (first - 128) rest)
 long_read octets first rest are long begins =
     let form = long_there Truncated first rest begins.0 begins.1 long (rw are at begins.2) in
     rw (form.value, form.left) begins.2

@@ -15,7 +15,8 @@ nesting-kids (Constructed tag ks) kids e =
     let same : kids ≡ listed ks = cc in
     ap (λ k. deepest k + 1) (sym (row-listed ks)) ∙ ap (λ k. deepest (row k) + 1) (sym same)
 
-pub deepest-drop : (kids : List DerElement) (i : ℕ) (d : DerElement) → i < length kids → deepest (row (drop i kids)) ≡ max (nesting (get_or kids i d)) (deepest (row (drop (i + 1) kids)))
+pub deepest-drop : (kids : List DerElement) (i : ℕ) (d : DerElement) → i < length kids
+    → deepest (row (drop i kids)) ≡ max (nesting (get_or kids i d)) (deepest (row (drop (i + 1) kids)))
 deepest-drop kids i d h = at_drop_more (λ k. deepest (row k)) kids i d h
 
 pub deepest-drop_all : (kids : List DerElement) (i : ℕ) → length kids ≤ i → deepest (row (drop i kids)) ≡ 0

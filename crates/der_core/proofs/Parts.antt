@@ -20,7 +20,8 @@ has_more (kid ∷ kids) none = record { kid = kid; rest = kids; are = refl }
 
 -- a refusal of the shape of one thing is one of another, if this has no value whenever that has
 -- none
-pub refuses_as : {X Y : Type 0} (P : X → Type 0) (Q : Y → Type 0) (e : DerError) → (((x : X) → P x → ⊥) → (y : Y) → Q y → ⊥) → RefusesShape P e → RefusesShape Q e
+pub refuses_as : {X Y : Type 0} (P : X → Type 0) (Q : Y → Type 0) (e : DerError) → (((x : X) → P x → ⊥) → (y : Y) → Q y → ⊥) → RefusesShape P e
+    → RefusesShape Q e
 refuses_as P Q errors.Shape none refused = none refused
 refuses_as P Q errors.Memory none refused = tt
 refuses_as P Q (errors.Malformed malformed) none refused = absurd refused
@@ -28,7 +29,8 @@ refuses_as P Q errors.TooDeep none refused = absurd refused
 refuses_as P Q errors.TooLong none refused = absurd refused
 
 -- elements are the same only if their kids are
-pub same_kids : (t : DerElement) (tag tag' : ℕ) (kids kids' : List DerElement) → t ≡ Constructed tag (row kids) → t ≡ Constructed tag' (row kids') → kids ≡ kids'
+pub same_kids : (t : DerElement) (tag tag' : ℕ) (kids kids' : List DerElement) → t ≡ Constructed tag (row kids) → t ≡ Constructed tag' (row kids')
+    → kids ≡ kids'
 same_kids t tag tag' kids kids' is is' =
     let same : row kids ≡ row kids' = cc in
     sym (listed-row kids) ∙ ap listed same ∙ listed-row kids'
@@ -38,7 +40,8 @@ well_formed-append [] kid formed one = (one, tt)
 well_formed-append (k ∷ kids) kid formed one = (formed.0, well_formed-append kids kid formed.1 one)
 
 -- one more well-formed element, or as many as before
-pub well_formed_more : {E : Type 0} (old new : List DerElement) (kid : DerElement) (r : Result (Unit {0}) E) → OnOk r (new ≡ old ++ kid ∷ []) → OnErr r (new ≡ old)
+pub well_formed_more : {E : Type 0} (old new : List DerElement) (kid : DerElement) (r : Result (Unit {0}) E) → OnOk r (new ≡ old ++ kid ∷ [])
+    → OnErr r (new ≡ old)
     → AreWellFormed (row old) → IsWellFormed kid → AreWellFormed (row new)
 well_formed_more old new kid (Ok done) ok err formed one = subst (λ ks. AreWellFormed (row ks)) (sym ok) (well_formed-append old kid formed one)
 well_formed_more old new kid (Err e) ok err formed one = subst (λ ks. AreWellFormed (row ks)) (sym err) formed

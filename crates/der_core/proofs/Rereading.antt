@@ -9,7 +9,8 @@ use Rattle.der_core.specs.declared.error.DerError.TheVariants as errors
 use Rattle.der_core.proofs.Exact.{no_fault_where_whole, whole_once}
 
 -- octets of an element that doesn't encode no value are refused only where memory runs out
-pub only_memory : {X : Type 0} (spells : DerElement → X → Type 0) (octets : List ℕ) (element : DerElement) (e : DerError) → IsDer element → octets ≡ encoding element
+pub only_memory : {X : Type 0} (spells : DerElement → X → Type 0) (octets : List ℕ) (element : DerElement) (e : DerError) → IsDer element
+    → octets ≡ encoding element
     → (((value : X) → spells element value → ⊥) → ⊥) → RefusesOctets spells octets e → e ≡ errors.Memory
 only_memory spells octets element (errors.Malformed m) der is some refused = absurd (no_fault_where_whole octets element m.at m.fault der is refused)
 only_memory spells octets element errors.Shape der is some refused =
@@ -19,8 +20,10 @@ only_memory spells octets element errors.TooDeep der is some refused = absurd re
 only_memory spells octets element errors.TooLong der is some refused = absurd refused
 only_memory spells octets element errors.Memory der is some refused = refl
 
-pub reread : {X : Type 0} (spells : DerElement → X → Type 0) → ((element : DerElement) (a b : X) → spells element a → spells element b → a ≡ b) → (octets : List ℕ) (value : X) (read : Result X DerError)
-    → IsWithin spells octets value → MatchResult read (IsWithin spells octets) (RefusesOctets spells octets) → MatchResult read (λ again. again ≡ value) (λ e. e ≡ errors.Memory)
+pub reread : {X : Type 0} (spells : DerElement → X → Type 0) → ((element : DerElement) (a b : X) → spells element a → spells element b → a ≡ b)
+    → (octets : List ℕ) (value : X) (read : Result X DerError)
+    → IsWithin spells octets value → MatchResult read (IsWithin spells octets) (RefusesOctets spells octets)
+    → MatchResult read (λ again. again ≡ value) (λ e. e ≡ errors.Memory)
 reread spells once octets value (Ok again) is found =
     let same = whole_once octets found.element is.element found.der is.der found.encoded is.encoded in
     once is.element again value (subst (λ x. spells x again) same found.spelled) is.spelled

@@ -62,7 +62,8 @@ none_returns [] e none p = p
 none_returns (rule ∷ rules) e none (inl p) = none.0 p
 none_returns (rule ∷ rules) e none (inr p) = none_returns rules e none.1 p.1
 
-pub one_of_two : {E : Type 0} (rule : E → Type 0) (rules : List (E → Type 0)) → IsReturnedOnce rule → ((a b : E) → IsFirstBroken rules a → IsFirstBroken rules b → a ≡ b)
+pub one_of_two : {E : Type 0} (rule : E → Type 0) (rules : List (E → Type 0)) → IsReturnedOnce rule
+    → ((a b : E) → IsFirstBroken rules a → IsFirstBroken rules b → a ≡ b)
     → (a b : E) → IsFirstBroken (rule ∷ rules) a → IsFirstBroken (rule ∷ rules) b → a ≡ b
 one_of_two rule rules once others a b (inl p) (inl q) = once a b p q
 one_of_two rule rules once others a b (inl p) (inr q) = absurd (q.0 a p)

@@ -22,7 +22,8 @@ each_more spells (e ∷ elements) [] element value each one = absurd each
 each_more spells (e ∷ elements) (v ∷ values) element value each one = (each.0, each_more spells elements values element value each.1 one)
 
 -- the value of the next element comes last
-pub first_more : {X : Type 0} (spells : DerElement → X → Type 0) (all : List DerElement) (rest rest' : List DerElement) (values values' : List X) (element : DerElement) (value : X)
+pub first_more : {X : Type 0} (spells : DerElement → X → Type 0) (all : List DerElement) (rest rest' : List DerElement) (values values' : List X)
+    (element : DerElement) (value : X)
     → AreFirst spells all rest values → rest ≡ element ∷ rest' → spells element value → values' ≡ values ++ value ∷ [] → AreFirst spells all rest' values'
 first_more spells all rest rest' values values' element value so_far next one pushed = record {
   first = so_far.first ++ element ∷ [];
@@ -41,7 +42,8 @@ each_without spells (e ∷ before) element after (v ∷ values) each none = each
 pub first_without : {X : Type 0} (spells : DerElement → X → Type 0) (all rest rest' : List DerElement) (values values' : List X) (element : DerElement)
     → AreFirst spells all rest values → rest ≡ element ∷ rest' → ((value : X) → spells element value → ⊥) → AreEach spells all values' → ⊥
 first_without spells all rest rest' values values' element so_far next none each =
-    each_without spells so_far.first element rest' values' (subst (λ elements. AreEach spells elements values') (so_far.are ∙ ap (λ r. so_far.first ++ r) next) each) none
+    each_without spells so_far.first element rest' values'
+    (subst (λ elements. AreEach spells elements values') (so_far.are ∙ ap (λ r. so_far.first ++ r) next) each) none
 
 -- nothing is written yet
 pub none_written : {X : Type 0} (written : X → DerElement) (inner : X → List DerElement) (all : List X) → AreFirstWritten written inner all all []
@@ -52,7 +54,8 @@ none_written written inner all = record {
 }
 
 -- the element of the next value comes last
-pub written_more : {X : Type 0} (written : X → DerElement) (inner : X → List DerElement) (all rest rest' : List X) (elements elements' : List DerElement) (value : X) (element : DerElement)
+pub written_more : {X : Type 0} (written : X → DerElement) (inner : X → List DerElement) (all rest rest' : List X) (elements elements' : List DerElement)
+    (value : X) (element : DerElement)
     → AreFirstWritten written inner all rest elements → rest ≡ value ∷ rest' → element ≡ written value → AreDer (inner value)
     → elements' ≡ elements ++ element ∷ [] → AreFirstWritten written inner all rest' elements'
 written_more written inner all rest rest' elements elements' value element so_far next is der pushed =
@@ -62,12 +65,14 @@ written_more written inner all rest rest' elements elements' value element so_fa
       parts = so_far.parts ∙ ap (λ r. first ++ r) next ∙ sym (append_assoc first (value ∷ []) rest');
       done = record {
         are = pushed ∙ ap (λ es. es ++ element ∷ []) so_far.done.are ∙ ap (λ e. map written first ++ e ∷ []) is ∙ sym (map-append written first (value ∷ []));
-        bounded = subst AreDer (sym (flat_map-append inner first (value ∷ []) ∙ ap (λ i. flat_map inner first ++ i) (append-nil (inner value)))) (AreDer-append (flat_map inner first) (inner value) so_far.done.bounded der);
+        bounded = subst AreDer (sym (flat_map-append inner first (value ∷ []) ∙ ap (λ i. flat_map inner first ++ i) (append-nil (inner value))))
+            (AreDer-append (flat_map inner first) (inner value) so_far.done.bounded der);
       };
     }
 
 -- what prevents the next value from being written prevents all of them
-pub written_not : {X : Type 0} (written : X → DerElement) (inner : X → List DerElement) (all rest rest' : List X) (elements : List DerElement) (value : X) (e : DerError)
+pub written_not : {X : Type 0} (written : X → DerElement) (inner : X → List DerElement) (all rest rest' : List X) (elements : List DerElement) (value : X)
+    (e : DerError)
     → AreFirstWritten written inner all rest elements → rest ≡ value ∷ rest' → RefusesInner (inner value) e → RefusesInner (flat_map inner all) e
 written_not written inner all rest rest' elements value e so_far next refused =
     let first = so_far.first in
@@ -89,13 +94,16 @@ list_around spells t tag kids holds (Err e) refused =
 
 -- the elements encode values if those that are left do
 pub first_fits : {X : Type 0} (spells : DerElement → X → Type 0) (all rest rest' : List DerElement) (element : DerElement)
-    → (Fits (AreEach spells) rest → Fits (AreEach spells) all) → rest ≡ element ∷ rest' → Fits spells element → Fits (AreEach spells) rest' → Fits (AreEach spells) all
-first_fits spells all rest rest' element goes_on next one more = goes_on (one.0 ∷ more.0, subst (λ es. AreEach spells es (one.0 ∷ more.0)) (sym next) (one.1, more.1))
+    → (Fits (AreEach spells) rest → Fits (AreEach spells) all) → rest ≡ element ∷ rest' → Fits spells element → Fits (AreEach spells) rest'
+    → Fits (AreEach spells) all
+first_fits spells all rest rest' element goes_on next one more =
+    goes_on (one.0 ∷ more.0, subst (λ es. AreEach spells es (one.0 ∷ more.0)) (sym next) (one.1, more.1))
 
 rest_each' : {X : Type 0} (spells : DerElement → X → Type 0) (rest rest' : List DerElement) (element : DerElement) (values : List X)
     → rest ≡ element ∷ rest' → AreEach spells rest values → Fits spells element × Fits (AreEach spells) rest'
 rest_each' spells rest rest' element [] next each = absurd (subst (λ es. AreEach spells es []) next each)
-rest_each' spells rest rest' element (v ∷ values) next each = let both = subst (λ es. AreEach spells es (v ∷ values)) next each in ((v, both.0), (values, both.1))
+rest_each' spells rest rest' element (v ∷ values) next each = let both = subst (λ es. AreEach spells es (v ∷ values)) next each in
+    ((v, both.0), (values, both.1))
 
 pub rest_each : {X : Type 0} (spells : DerElement → X → Type 0) (rest rest' : List DerElement) (element : DerElement)
     → rest ≡ element ∷ rest' → Fits (AreEach spells) rest → Fits spells element × Fits (AreEach spells) rest'

@@ -15,7 +15,8 @@ IsShort-kid [] i d h short = absurd (omega arith)
 IsShort-kid (kid ∷ kids) zero d h short = short.0
 IsShort-kid (kid ∷ kids) (suc i) d h short = IsShort-kid kids i d (omega arith) short.1
 
-pub kid_first : (all : List DerElement) (kid : DerElement) (rest : List DerElement) → all ≡ kid ∷ rest → elements_count (row all) ≡ element_count kid + elements_count (row rest)
+pub kid_first : (all : List DerElement) (kid : DerElement) (rest : List DerElement) → all ≡ kid ∷ rest
+    → elements_count (row all) ≡ element_count kid + elements_count (row rest)
 kid_first all kid rest e = ap (λ k. elements_count (row k)) e
 
 -- an element with kids is constructed
@@ -26,10 +27,12 @@ with_kids (Constructed t ks) tag kids same e =
     ap (λ s. Constructed s ks) (sym same) ∙ ap (Constructed tag) (sym (row-listed ks) ∙ ap row these)
 
 -- an element of the tag by its kids, if it has any
-pub of_tag : {X : Type 0} (found : Option X) (kids : X → List DerElement) (t : DerElement) (tag : ℕ) → tag ≡ tag_of t → MatchOption found (kids_of t ≡ None) (λ x. kids_of t ≡ Some (kids x))
+pub of_tag : {X : Type 0} (found : Option X) (kids : X → List DerElement) (t : DerElement) (tag : ℕ) → tag ≡ tag_of t
+    → MatchOption found (kids_of t ≡ None) (λ x. kids_of t ≡ Some (kids x))
     → MatchOption found ((ks : DerElements) → t ≢ Constructed tag ks) (λ x. t ≡ Constructed tag (row (kids x)))
 of_tag None kids t tag same none = without_kids t none tag
 of_tag (Some x) kids t tag same some = with_kids t tag (kids x) same some
 
-pub count_around : (t : DerElement) (tag : ℕ) (kids : List DerElement) → tag ≡ tag_of t → kids_of t ≡ Some kids → element_count t ≡ elements_count (row kids) + 1
+pub count_around : (t : DerElement) (tag : ℕ) (kids : List DerElement) → tag ≡ tag_of t → kids_of t ≡ Some kids
+    → element_count t ≡ elements_count (row kids) + 1
 count_around t tag kids same e = ap element_count (with_kids t tag kids same e)

@@ -43,11 +43,13 @@ mutual
   lights_short Nil light = tt
   lights_short (Cons kid kids) light = (light_short kid (omega arith), lights_short kids (omega arith))
 
-none_deep : (elements before : List DerElement) (element : DerElement) (after : List DerElement) → AreSmall elements → elements ≡ before ++ element ∷ after → IsSmall element
+none_deep : (elements before : List DerElement) (element : DerElement) (after : List DerElement) → AreSmall elements → elements ≡ before ++ element ∷ after
+    → IsSmall element
 none_deep [] [] element after small are = absurd cc
 none_deep [] (b ∷ before) element after small are = absurd cc
 none_deep (x ∷ elements) [] element after small are = let same : x ≡ element = cc in subst IsSmall same small.0
-none_deep (x ∷ elements) (b ∷ before) element after small are = let same : elements ≡ before ++ element ∷ after = cc in none_deep elements before element after small.1 same
+none_deep (x ∷ elements) (b ∷ before) element after small are = let same : elements ≡ before ++ element ∷ after = cc in
+    none_deep elements before element after small.1 same
 
 -- small elements are refused for memory alone
 pub only_memory : (elements : List DerElement) (e : DerError) → AreSmall elements → RefusesInner elements e → e ≡ errors.Memory

@@ -38,12 +38,14 @@ names_at t kids rest first oid kind a is begins leaf spells named =
     subst (λ (o : List ℕ). IsTrue (names_kind kind o)) contents named
 
 -- an OID's element holds its contents octets
-pub identifier_lies : (t : DerElement) (octets : List ℕ) → t ≡ Primitive 0x06 octets → Fits (λ (element : DerElement) (o : ObjectIdentifier). element ≡ object_identifier o) t
+pub identifier_lies : (t : DerElement) (octets : List ℕ) → t ≡ Primitive 0x06 octets
+    → Fits (λ (element : DerElement) (o : ObjectIdentifier). element ≡ object_identifier o) t
     → (o : ObjectIdentifier) × (t ≡ object_identifier o) × (identifier_contents o ≡ octets)
 identifier_lies t octets is fit = (fit.0, fit.1, leaf_once (identifier_contents fit.0) octets (sym fit.1 ∙ is))
 
 -- the OID that the parameters of an algorithm are
-pub curve_of_parameters : {X : Type 0} (contents : X → List ℕ) (parameters : Option KeptElement) (raw : KeptElement) (t : DerElement) → Some raw ≡ parameters → t ≡ raw.element
+pub curve_of_parameters : {X : Type 0} (contents : X → List ℕ) (parameters : Option KeptElement) (raw : KeptElement) (t : DerElement) → Some raw ≡ parameters
+    → t ≡ raw.element
     → (r : Option X) → MatchOption r ((o : ObjectIdentifier) → t ≢ object_identifier o)
     (λ x. (o : ObjectIdentifier) × (t ≡ object_identifier o) × (identifier_contents o ≡ contents x))
     → MatchOption r ((o : ObjectIdentifier) → kept_option parameters ≢ Some (object_identifier o))
@@ -59,12 +61,14 @@ curve_of_parameters contents parameters raw t stands is (Some x) found = (found.
 
 pub no_curve_lacks : (parameters : Option DerElement) → MayHave kinds.Ec parameters → ((o : ObjectIdentifier) → parameters ≢ Some (object_identifier o)) → ⊥
 no_curve_lacks None may none = absurd may
-no_curve_lacks (Some (Primitive tag contents)) may none = none (record { contents = contents; formed = may.1 }) (ap (λ (n : ℕ). Some (Primitive n contents)) may.0)
+no_curve_lacks (Some (Primitive tag contents)) may none =
+    none (record { contents = contents; formed = may.1 }) (ap (λ (n : ℕ). Some (Primitive n contents)) may.0)
 no_curve_lacks (Some (Constructed tag kids)) may none = absurd may
 
 ec_may_have : (read : ECPrivateKey) (parameters : Option DerElement) → HasCurve (values.Ec read) parameters → MayHave kinds.Ec parameters
 ec_may_have read None has = absurd has
 ec_may_have read (Some parameters) has = has
 
-pub may_have : (value : PrivateKeyValue) (read : ECPrivateKey) (parameters : Option DerElement) → value ≡ values.Ec read → HasCurve value parameters → MayHave kinds.Ec parameters
+pub may_have : (value : PrivateKeyValue) (read : ECPrivateKey) (parameters : Option DerElement) → value ≡ values.Ec read → HasCurve value parameters
+    → MayHave kinds.Ec parameters
 may_have value read parameters is has = ec_may_have read parameters (subst (λ (v : PrivateKeyValue). HasCurve v parameters) is has)

@@ -16,7 +16,8 @@ use Rattle.asn1_types.specs.declared.oid.ObjectIdentifier.{ObjectIdentifier}
 use Rattle.key_types.specs.declared.ec_private_key.ECPrivateKey.{ECPrivateKey}
 use Rattle.sig_core.specs.declared.algorithm.SchemeKind.{SchemeKind}
 use Rattle.key_core.specs.CurveKeys.{IsCurveKey, RefusesCurveKey}
-use Rattle.key_core.specs.DerivedKeys.{Derivation, IsDerived, RefusesDerived, IsPointOf, RefusesPoint, IsEdKeyOf, RefusesEdKey, IsEcRefusal, IsEdRefusal, curve_kind, ed_kind}
+use Rattle.key_core.specs.DerivedKeys.{Derivation, IsDerived, RefusesDerived, IsPointOf, RefusesPoint}
+use Rattle.key_core.specs.DerivedKeys.{IsEdKeyOf, RefusesEdKey, IsEcRefusal, IsEdRefusal, curve_kind, ed_kind}
 use Rattle.key_core.specs.EcCurve.{field_size}
 use Rattle.key_core.specs.KeyRefusals.{IsUnreadKey}
 use Rattle.key_core.specs.Pkcs8.{IsKeptEc, IsKeptEd, IsKeptKey, KeepsItself, RefusesEcInfo, RefusesEdInfo, RefusesKept, RefusesPkcs8}
@@ -37,9 +38,11 @@ use Rattle.key_core.specs.declared.private_key_value.PrivateKeyValue.TheVariants
 use Rattle.key_core.proofs.KeptKeys.{one_curve, one_algorithm}
 
 -- octets that encode a value are read, or memory runs out
-pub unread_for_memory : {X : Type 0} (spells : DerElement → X → Type 0) (octets : List ℕ) (element : DerElement) (value : X) → IsDer element → octets ≡ encoding element → spells element value
+pub unread_for_memory : {X : Type 0} (spells : DerElement → X → Type 0) (octets : List ℕ) (element : DerElement) (value : X) → IsDer element
+    → octets ≡ encoding element → spells element value
     → (structure : Element) (e : KeyError) → IsUnreadKey structure (RefusesOctets spells octets) e → e ≡ errors.Memory
-unread_for_memory spells octets element value bounds is spelled structure e (der.Malformed m, returned, refused) = absurd (no_fault_where_whole octets element m.at m.fault bounds is refused)
+unread_for_memory spells octets element value bounds is spelled structure e (der.Malformed m, returned, refused) =
+    absurd (no_fault_where_whole octets element m.at m.fault bounds is refused)
 unread_for_memory spells octets element value bounds is spelled structure e (der.Shape, returned, refused) =
     let same = formed_encoding_once element refused.element bounds.formed refused.der.formed (sym is ∙ refused.encoded) in
     absurd (refused.none value (subst (λ (x : DerElement). spells x value) same spelled))
@@ -69,7 +72,8 @@ not_derived derives kind size secret public_key contexts.SchemeRefused is refuse
 not_point : (derives : Derivation) (known : Option EcCurve) (secret : List ℕ) (read public_key : Option BitString) (context : KeyContext)
     → IsPointOf derives known secret read public_key → RefusesPoint derives known secret read context → ⊥
 not_point derives known secret (Some read) public_key context is refused = refused
-not_point derives (Some curve) secret None public_key context is refused = not_derived derives (curve_kind curve) (field_size curve) secret public_key context is refused
+not_point derives (Some curve) secret None public_key context is refused =
+    not_derived derives (curve_kind curve) (field_size curve) secret public_key context is refused
 not_point derives None secret None public_key context is refused = refused
 
 not_ed_key : (derives : Derivation) (known : Option EdAlgorithm) (secret : List ℕ) (public_key : Option BitString) (context : KeyContext)
@@ -97,7 +101,8 @@ not_ed_info : (derives : Derivation) (secret : List ℕ) (info : PrivateKeyInfo)
     → IsKeptEd derives secret info key → RefusesEdInfo derives secret (identifier_contents info.private_key_algorithm.oid) context → ⊥
 not_ed_info derives secret info key context kept refused =
     let known = one_algorithm (identifier_contents info.private_key_algorithm.oid) kept.known refused.0 kept.named refused.1 in
-    not_ed_key derives refused.0 secret key.public_key context (subst (λ (k : Option EdAlgorithm). IsEdKeyOf derives k secret key.public_key) known kept.derived) refused.2
+    not_ed_key derives refused.0 secret key.public_key context
+    (subst (λ (k : Option EdAlgorithm). IsEdKeyOf derives k secret key.public_key) known kept.derived) refused.2
 
 ec_for_memory : (Refuses : KeyContext → Type 0) → ((context : KeyContext) → Refuses context → ⊥) → (e : KeyError) → IsEcRefusal Refuses e → e ≡ errors.Memory
 ec_for_memory Refuses none (errors.Asn1Serialization element source) refused = absurd refused
@@ -121,9 +126,11 @@ kept_for_memory : (derives : Derivation) (value : PrivateKeyValue) (info : Priva
     → IsKeptKey derives value info key → RefusesKept derives value info e → e ≡ errors.Memory
 kept_for_memory derives (values.Rsa rsa) info key e kept refused = refused
 kept_for_memory derives (values.Ec read) info key e kept refused =
-    ec_for_memory (RefusesEcInfo derives read (kept_option info.private_key_algorithm.parameters)) (λ context. not_ec_info derives read info key context kept) e refused
+    ec_for_memory (RefusesEcInfo derives read (kept_option info.private_key_algorithm.parameters))
+    (λ context. not_ec_info derives read info key context kept) e refused
 kept_for_memory derives (values.Ed secret) info key e kept refused =
-    ed_for_memory (RefusesEdInfo derives secret (identifier_contents info.private_key_algorithm.oid)) (λ context. not_ed_info derives secret info key context kept) e refused
+    ed_for_memory (RefusesEdInfo derives secret (identifier_contents info.private_key_algorithm.oid))
+    (λ context. not_ed_info derives secret info key context kept) e refused
 
 pub private_for_memory : (derives : Derivation) (octets : List ℕ) (key : PrivateKey) (e : KeyError)
     → KeepsItself derives key → octets ≡ encoding (private_key_info key.info) → IsDer (private_key_info key.info) → AreDer (inner_private_key key.info)
@@ -134,5 +141,6 @@ private_for_memory derives octets key e own written bounds inner (inr refused) =
     let info = refused.0 in
     let within = refused.1 in
     let encoded : encoding (private_key_info info) ≡ encoding (private_key_info key.info) = ap encoding (sym within.spelled.0) ∙ sym within.encoded ∙ written in
-    let same = infos_once info key.info (formed_encoding_once (private_key_info info) (private_key_info key.info) (infos_formed info) (infos_formed key.info) encoded) in
+    let same =
+    infos_once info key.info (formed_encoding_once (private_key_info info) (private_key_info key.info) (infos_formed info) (infos_formed key.info) encoded) in
     kept_for_memory derives key.info.private_key key.info key e own (subst (λ (i : PrivateKeyInfo). RefusesKept derives i.private_key i e) same refused.2)

@@ -23,11 +23,13 @@ use Rattle.key_core.specs.declared.private_key_value.PrivateKeyValue.{PrivateKey
 use Rattle.key_core.specs.declared.private_key_info.PrivateKeyInfo.{PrivateKeyInfo}
 
 -- contents octets of a BIT STRING
-pub bits_of : (o : Option (List ℕ)) (content : List ℕ) → o ≡ Some content → HasBitString content → (bits : Option BitString) × (o ≡ option_map bit_string_contents bits)
+pub bits_of : (o : Option (List ℕ)) (content : List ℕ) → o ≡ Some content → HasBitString content
+    → (bits : Option BitString) × (o ≡ option_map bit_string_contents bits)
 bits_of o content is bits = (Some (record { unused = bits.0; payload = bits.1; formed = bits.3 }), is ∙ ap Some bits.2)
 
 -- an element of fields that have values is one of a key
-pub of_fields : (t : DerElement) (v : PrivateKeyVersion) (a : DerElement) (octets : List ℕ) (attributes : Option Elem) (public_key : Option (List ℕ)) (kind : KeyKind)
+pub of_fields : (t : DerElement) (v : PrivateKeyVersion) (a : DerElement) (octets : List ℕ) (attributes : Option Elem) (public_key : Option (List ℕ))
+    (kind : KeyKind)
     → t ≡ private_key_info_of (key_version v) a octets (at_option attributes) public_key → HaveTag (at_option attributes)
     → (algorithm : AlgorithmIdentifier) → a ≡ algorithm_identifier algorithm → Names algorithm kind
     → (key : PrivateKeyValue) → IsPrivateKeyOf kind octets key
@@ -47,14 +49,17 @@ of_fields t v a octets attributes public_key kind is tagged algorithm same named
         is
             ∙ ap (λ (e : DerElement). private_key_info_of (key_version v) e octets (at_option attributes) public_key) same
             ∙ ap (λ (o : List ℕ). private_key_info_of (key_version v) (algorithm_identifier algorithm) o (at_option attributes) public_key) of.encoded
-            ∙ ap (λ (p : Option DerElement). private_key_info_of (key_version v) (algorithm_identifier algorithm) (encoding (private_key key)) p public_key) kept.1
+            ∙ ap (λ (p : Option DerElement). private_key_info_of (key_version v) (algorithm_identifier algorithm) (encoding (private_key key)) p public_key)
+            kept.1
             ∙ ap (private_key_info_of (key_version v) (algorithm_identifier algorithm) (encoding (private_key key)) (kept_option kept.0)) point,
         (of.der, tt),
       ),
     )
 
 -- the public key of an element is that of its key
-pub point_of : (t v a : DerElement) (octets : List ℕ) (attributes : Option DerElement) (public_key : Option (List ℕ)) → t ≡ private_key_info_of v a octets attributes public_key → HaveTag attributes
+pub point_of : (t v a : DerElement) (octets : List ℕ) (attributes : Option DerElement) (public_key : Option (List ℕ))
+    → t ≡ private_key_info_of v a octets attributes public_key → HaveTag attributes
     → (info : PrivateKeyInfo) → IsPrivateKeyInfo t info → public_key ≡ option_map bit_string_contents info.public_key
 point_of t v a octets attributes public_key is tagged info spells =
-    (fields_once v (key_version info.version) a (algorithm_identifier info.private_key_algorithm) octets (encoding (private_key info.private_key)) attributes (kept_option info.attributes) public_key (option_map bit_string_contents info.public_key) tagged info.agree.tagged (sym is ∙ spells.0)).4
+    (fields_once v (key_version info.version) a (algorithm_identifier info.private_key_algorithm) octets (encoding (private_key info.private_key)) attributes
+    (kept_option info.attributes) public_key (option_map bit_string_contents info.public_key) tagged info.agree.tagged (sym is ∙ spells.0)).4

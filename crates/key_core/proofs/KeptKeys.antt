@@ -68,10 +68,12 @@ one_ed_key derives None secret a b p q = p ∙ sym q
 same_oid : (a b : ObjectIdentifier) → identifier_contents a ≡ identifier_contents b → a ≡ b
 same_oid a b e = identifiers.once (object_identifier a) a b refl (ap (Primitive 0x06) e)
 
-one_algorithm_identifier : (a b : AlgorithmIdentifier) → identifier_contents a.oid ≡ identifier_contents b.oid → kept_option a.parameters ≡ kept_option b.parameters → a ≡ b
+one_algorithm_identifier : (a b : AlgorithmIdentifier) → identifier_contents a.oid ≡ identifier_contents b.oid
+    → kept_option a.parameters ≡ kept_option b.parameters → a ≡ b
 one_algorithm_identifier a b oid parameters =
     algorithms.once (algorithm_identifier a) a b refl
-    (ap (λ (o : ObjectIdentifier). algorithm_of (object_identifier o) (kept_option a.parameters)) (same_oid a.oid b.oid oid) ∙ ap (algorithm_of (object_identifier b.oid)) parameters)
+    (ap (λ (o : ObjectIdentifier). algorithm_of (object_identifier o) (kept_option a.parameters)) (same_oid a.oid b.oid oid)
+    ∙ ap (algorithm_of (object_identifier b.oid)) parameters)
 
 one_container : (curve : ObjectIdentifier) (key : ECPrivateKey) (a b : PrivateKeyInfo) → IsEcContainer curve key a → IsEcContainer curve key b → a ≡ b
 one_container curve key a b p q =
@@ -90,21 +92,24 @@ one_curve_key derives curve read a b p q =
     (one_point derives q.known read.private_key read.public_key a.public_key b.public_key
     (subst (λ (k : Option EcCurve). IsPointOf derives k read.private_key read.public_key a.public_key) known p.point) q.point)
 
-one_kept_ec : (derives : Derivation) (read : ECPrivateKey) (info : PrivateKeyInfo) (a b : PrivateKey) → IsKeptEc derives read info a → IsKeptEc derives read info b → a ≡ b
+one_kept_ec : (derives : Derivation) (read : ECPrivateKey) (info : PrivateKeyInfo) (a b : PrivateKey) → IsKeptEc derives read info a
+    → IsKeptEc derives read info b → a ≡ b
 one_kept_ec derives read info a b p q =
     let both : Some (object_identifier p.curve) ≡ Some (object_identifier q.curve) = sym p.parameters ∙ q.parameters in
     let element : object_identifier p.curve ≡ object_identifier q.curve = cc in
     let curve = identifiers.once (object_identifier p.curve) p.curve q.curve refl element in
     one_curve_key derives q.curve read a b (subst (λ (c : ObjectIdentifier). IsCurveKey derives c read a) curve p.is) q.is
 
-one_kept_ed : (derives : Derivation) (secret : List ℕ) (info : PrivateKeyInfo) (a b : PrivateKey) → IsKeptEd derives secret info a → IsKeptEd derives secret info b → a ≡ b
+one_kept_ed : (derives : Derivation) (secret : List ℕ) (info : PrivateKeyInfo) (a b : PrivateKey) → IsKeptEd derives secret info a
+    → IsKeptEd derives secret info b → a ≡ b
 one_kept_ed derives secret info a b p q =
     let known = one_algorithm (identifier_contents info.private_key_algorithm.oid) p.known q.known p.named q.named in
     same_key a b (p.as_read ∙ sym q.as_read)
     (one_ed_key derives q.known secret a.public_key b.public_key
     (subst (λ (k : Option EdAlgorithm). IsEdKeyOf derives k secret a.public_key) known p.derived) q.derived)
 
-pub one_kept : (derives : Derivation) (value : PrivateKeyValue) (info : PrivateKeyInfo) (a b : PrivateKey) → IsKeptKey derives value info a → IsKeptKey derives value info b → a ≡ b
+pub one_kept : (derives : Derivation) (value : PrivateKeyValue) (info : PrivateKeyInfo) (a b : PrivateKey) → IsKeptKey derives value info a
+    → IsKeptKey derives value info b → a ≡ b
 one_kept derives (values.Rsa rsa) info a b p q = same_key a b (p.0 ∙ sym q.0) (p.1 ∙ sym q.1)
 one_kept derives (values.Ec read) info a b p q = one_kept_ec derives read info a b p q
 one_kept derives (values.Ed secret) info a b p q = one_kept_ed derives secret info a b p q

@@ -10,7 +10,8 @@ use Rattle.key_core.specs.KeyIdentifier.{RefusesPayload, payload_refusal}
 use Rattle.key_core.proofs.Unwritten.{alone}
 use Rattle.key_core.proofs.Verifications.{deep_is_not_memory, long_is_not_memory}
 
-pub payload_refused : (k : RsaPublicKey) (source : DerError) → RefusesInner (rsa_public_key k ∷ []) source → RefusesPayload (keys.Rsa k) (payload_refusal source)
+pub payload_refused : (k : RsaPublicKey) (source : DerError) → RefusesInner (rsa_public_key k ∷ []) source
+    → RefusesPayload (keys.Rsa k) (payload_refusal source)
 payload_refused k (der.Malformed m) refused = absurd refused
 payload_refused k der.Shape refused = absurd refused
 payload_refused k der.TooDeep refused = (k, refl, refl, alone (rsa_public_key k) der.TooDeep deep_is_not_memory refused)

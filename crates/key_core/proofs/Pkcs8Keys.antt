@@ -13,10 +13,13 @@ use Rattle.key_core.specs.declared.private_key_value.PrivateKeyValue.{PrivateKey
 use Rattle.key_core.specs.declared.private_key_value.PrivateKeyValue.TheVariants as values
 use Rattle.key_core.proofs.KeptKeys.{one_kept, kept_again}
 
-pub comes_again : (derives : Derivation) (octets : List ℕ) (key again : PrivateKey) → KeepsItself derives key → octets ≡ encoding (private_key_info key.info) → IsPkcs8Key derives octets again → again ≡ key
+pub comes_again : (derives : Derivation) (octets : List ℕ) (key again : PrivateKey) → KeepsItself derives key → octets ≡ encoding (private_key_info key.info)
+    → IsPkcs8Key derives octets again → again ≡ key
 comes_again derives octets key again own written is =
-    let encoded : encoding (private_key_info is.info) ≡ encoding (private_key_info key.info) = ap encoding (sym is.within.spelled.0) ∙ sym is.within.encoded ∙ written in
-    let info = infos_once is.info key.info (formed_encoding_once (private_key_info is.info) (private_key_info key.info) (infos_formed is.info) (infos_formed key.info) encoded) in
+    let encoded : encoding (private_key_info is.info) ≡ encoding (private_key_info key.info) = ap encoding (sym is.within.spelled.0) ∙ sym is.within.encoded
+    ∙ written in
+    let info = infos_once is.info key.info
+    (formed_encoding_once (private_key_info is.info) (private_key_info key.info) (infos_formed is.info) (infos_formed key.info) encoded) in
     let kept = subst (λ (i : PrivateKeyInfo). IsKeptKey derives i.private_key i again) info is.kept in
     one_kept derives key.info.private_key key.info again key kept own
 

@@ -36,12 +36,14 @@ ec_refusal P Q f errors.Memory r = r
 known_refused : (derives : Derivation) (curve : EcCurve) (oid : ObjectIdentifier) (read : ECPrivateKey) → identifier_contents oid ≡ curve_identifier curve
     → (context : KeyContext) → RefusesCurveKey derives oid read context → RefusesKnownCurve derives curve read context
 known_refused derives curve oid read named context r =
-    subst (λ (k : Option EcCurve). RefusesPoint derives k read.private_key read.public_key context) (one_curve (identifier_contents oid) r.0 (Some curve) r.1 (sym named)) r.2
+    subst (λ (k : Option EcCurve). RefusesPoint derives k read.private_key read.public_key context)
+    (one_curve (identifier_contents oid) r.0 (Some curve) r.1 (sym named)) r.2
 
 -- a result on the curve with an OID is one on the supported curve that it names
 pub on_known_curve : (derives : Derivation) (curve : EcCurve) (oid : ObjectIdentifier) (read : ECPrivateKey) → identifier_contents oid ≡ curve_identifier curve
     → (r : Result PrivateKey KeyError) → MatchResult r (IsCurveKey derives oid read) (IsEcRefusal (RefusesCurveKey derives oid read))
-    → MatchResult r (λ key. (o : ObjectIdentifier) × (identifier_contents o ≡ curve_identifier curve) × IsCurveKey derives o read key) (IsEcRefusal (RefusesKnownCurve derives curve read))
+    → MatchResult r (λ key. (o : ObjectIdentifier) × (identifier_contents o ≡ curve_identifier curve) × IsCurveKey derives o read key)
+    (IsEcRefusal (RefusesKnownCurve derives curve read))
 on_known_curve derives curve oid read named (Ok key) is = (oid, named, is)
 on_known_curve derives curve oid read named (Err e) r = ec_refusal
     (RefusesCurveKey derives oid read) (RefusesKnownCurve derives curve read)
@@ -50,7 +52,8 @@ on_known_curve derives curve oid read named (Err e) r = ec_refusal
 -- a result on the curve that a key names
 pub on_own_curve : (derives : Derivation) (curve : ObjectIdentifier) (read : ECPrivateKey) → read.parameters ≡ Some curve
     → (r : Result PrivateKey KeyError) → MatchResult r (IsCurveKey derives curve read) (IsEcRefusal (RefusesCurveKey derives curve read))
-    → MatchResult r (λ key. (o : ObjectIdentifier) × (read.parameters ≡ Some o) × IsCurveKey derives o read key) (IsEcRefusal (RefusesOwnCurve derives read.parameters read))
+    → MatchResult r (λ key. (o : ObjectIdentifier) × (read.parameters ≡ Some o) × IsCurveKey derives o read key)
+    (IsEcRefusal (RefusesOwnCurve derives read.parameters read))
 on_own_curve derives curve read stands (Ok key) is = (curve, stands, is)
 on_own_curve derives curve read stands (Err e) r =
     subst (λ (o : Option ObjectIdentifier). IsEcRefusal (RefusesOwnCurve derives o read) e) (sym stands) r
@@ -70,7 +73,8 @@ on_parameters derives parameters octets curve read found is (Err e) refused =
 
 as_ec : (derives : Derivation) (info : PrivateKeyInfo) (read : ECPrivateKey)
     → (r : Result PrivateKey KeyError)
-    → MatchResult r (λ key. (o : ObjectIdentifier) × (kept_option info.private_key_algorithm.parameters ≡ Some (object_identifier o)) × IsCurveKey derives o read key) (IsEcRefusal (RefusesEcInfo derives read (kept_option info.private_key_algorithm.parameters)))
+    → MatchResult r (λ key. (o : ObjectIdentifier) × (kept_option info.private_key_algorithm.parameters ≡ Some (object_identifier o))
+    × IsCurveKey derives o read key) (IsEcRefusal (RefusesEcInfo derives read (kept_option info.private_key_algorithm.parameters)))
     → MatchResult r (IsKeptKey derives (values.Ec read) info) (RefusesKept derives (values.Ec read) info)
 as_ec derives info read (Ok key) made = record { curve = made.0; parameters = made.1; is = made.2 }
 as_ec derives info read (Err e) refused = refused
@@ -78,7 +82,8 @@ as_ec derives info read (Err e) refused = refused
 -- a container with an EC key
 pub kept_as_ec : (derives : Derivation) (info : PrivateKeyInfo) (read : ECPrivateKey) → info.private_key ≡ values.Ec read
     → (r : Result PrivateKey KeyError)
-    → MatchResult r (λ key. (o : ObjectIdentifier) × (kept_option info.private_key_algorithm.parameters ≡ Some (object_identifier o)) × IsCurveKey derives o read key) (IsEcRefusal (RefusesEcInfo derives read (kept_option info.private_key_algorithm.parameters)))
+    → MatchResult r (λ key. (o : ObjectIdentifier) × (kept_option info.private_key_algorithm.parameters ≡ Some (object_identifier o))
+    × IsCurveKey derives o read key) (IsEcRefusal (RefusesEcInfo derives read (kept_option info.private_key_algorithm.parameters)))
     → MatchResult r (IsKeptKey derives info.private_key info) (RefusesKept derives info.private_key info)
 kept_as_ec derives info read is r answer =
     subst (λ (v : PrivateKeyValue). MatchResult r (IsKeptKey derives v info) (RefusesKept derives v info)) (sym is) (as_ec derives info read r answer)
@@ -103,14 +108,16 @@ refused_sec1 Refuses octets read within errors.Memory r = tt
 
 pub sec1_own : (derives : Derivation) (octets : List ℕ) (read : ECPrivateKey) → IsWithin IsECPrivateKey octets read
     → (r : Result PrivateKey KeyError)
-    → MatchResult r (λ key. (curve : ObjectIdentifier) × (read.parameters ≡ Some curve) × IsCurveKey derives curve read key) (IsEcRefusal (RefusesOwnCurve derives read.parameters read))
+    → MatchResult r (λ key. (curve : ObjectIdentifier) × (read.parameters ≡ Some curve) × IsCurveKey derives curve read key)
+    (IsEcRefusal (RefusesOwnCurve derives read.parameters read))
     → MatchResult r (IsSec1Key derives octets) (RefusesSec1 (λ x. RefusesOwnCurve derives x.parameters x) octets)
 sec1_own derives octets read within (Ok key) made = record { curve = made.0; read = read; within = within; present = made.1; is = made.2 }
 sec1_own derives octets read within (Err e) refused = refused_sec1 (λ x. RefusesOwnCurve derives x.parameters x) octets read within e refused
 
 pub sec1_known : (derives : Derivation) (curve : EcCurve) (octets : List ℕ) (read : ECPrivateKey) → IsWithin IsECPrivateKey octets read
     → (r : Result PrivateKey KeyError)
-    → MatchResult r (λ key. (o : ObjectIdentifier) × (identifier_contents o ≡ curve_identifier curve) × IsCurveKey derives o read key) (IsEcRefusal (RefusesKnownCurve derives curve read))
+    → MatchResult r (λ key. (o : ObjectIdentifier) × (identifier_contents o ≡ curve_identifier curve) × IsCurveKey derives o read key)
+    (IsEcRefusal (RefusesKnownCurve derives curve read))
     → MatchResult r (IsSec1KeyOnKnown derives curve octets) (RefusesSec1 (RefusesKnownCurve derives curve) octets)
 sec1_known derives curve octets read within (Ok key) made =
     record { oid = made.0; named = made.1; is = record { read = read; within = within; is = made.2 } }

@@ -62,7 +62,8 @@ key_of octets secret = record {
 pub is_key : (octets : List ℕ) → IsRsaSecret octets → (key : RsaPrivateKey) × (octets ≡ encoding (rsa_private_key key)) × IsDer (rsa_private_key key)
 is_key octets secret = (key_of octets secret, secret.encoded, secret.der)
 
-pub derived_half : (value : PrivateKeyValue) (algorithm : AlgorithmIdentifier) (public_key : Option BitString) (info : SubjectPublicKeyInfo) (secret bytes : List ℕ)
+pub derived_half : (value : PrivateKeyValue) (algorithm : AlgorithmIdentifier) (public_key : Option BitString) (info : SubjectPublicKeyInfo)
+    (secret bytes : List ℕ)
     → IsPkcs1OfPrivate value secret → IsPublicHalf value algorithm public_key info → IsPkcs1Of info.subject_public_key bytes → demo_key Rsa secret ≡ Some bytes
 unfolding is_secret
 derived_half (values.Rsa key) algorithm public_key info secret bytes private half public =

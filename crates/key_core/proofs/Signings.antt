@@ -30,7 +30,9 @@ use Rattle.key_core.specs.PrivateKeyValue.{private_kind}
 use Rattle.key_core.specs.PrivatePkcs1.{IsPkcs1OfPrivate, RefusesPrivatePkcs1}
 use Rattle.key_core.specs.SchemeNames.{rsa_alg, ecdsa_alg}
 use Rattle.key_core.specs.SignatureRules.{RefusesSignatureBy, key_refusal}
-use Rattle.key_core.specs.Signing.{HasCurveOf, HasEdOf, IsEd25519Secret, FitsSecret, Signs, Pair, IsAsked, IsKeyPair, NotRsaSecret, UnwritableSecret, UnpairedSecret, WrongSecretSize, ForAgreementOnly, NotEd25519Secret, WrongEdSize, Unsigned, scheme_refused, secret_rules, sign_rules}
+use Rattle.key_core.specs.Signing.{HasCurveOf, HasEdOf, IsEd25519Secret, FitsSecret, Signs, Pair, IsAsked, IsKeyPair}
+use Rattle.key_core.specs.Signing.{NotRsaSecret, UnwritableSecret, UnpairedSecret, WrongSecretSize, ForAgreementOnly}
+use Rattle.key_core.specs.Signing.{NotEd25519Secret, WrongEdSize, Unsigned, scheme_refused, secret_rules, sign_rules}
 use Rattle.key_core.specs.Verifying.{Judge, FitsKey, Accepts, IsPointOn}
 use Rattle.key_core.specs.declared.ec_curve.EcCurve.{EcCurve}
 use Rattle.key_core.specs.declared.ec_curve.EcCurve.TheVariants as curves
@@ -115,7 +117,8 @@ rsa_is_not_ed (values.Rsa key) secret octets of is = cc
 rsa_is_not_ed (values.Ec key) secret octets of is = of
 rsa_is_not_ed (values.Ed others) secret octets of is = of
 
-pub secret_met : (algorithm : SignatureAlgorithm) (key : PrivateKey) (alg : SigAlg) (secret : List ℕ) → FitsSecret algorithm key alg secret → AreMet (secret_rules algorithm key)
+pub secret_met : (algorithm : SignatureAlgorithm) (key : PrivateKey) (alg : SigAlg) (secret : List ℕ) → FitsSecret algorithm key alg secret
+    → AreMet (secret_rules algorithm key)
 secret_met (RsaPkcs1v15 hash) key alg secret fits = (λ e broken. broken.0 (rsa_kind key.info.private_key secret fits.1), tt)
 secret_met (Ecdsa hash) key alg secret fits =
     let curve = fits.0 in
@@ -128,7 +131,8 @@ secret_met (Ecdsa hash) key alg secret fits =
           ),
       tt,
     ) in
-    let paired : AreMet (UnpairedSecret key hash ∷ WrongSecretSize key ∷ []) = (λ e broken. broken.2 (fits.1 ∙ ap Some (one_curve_of key curve broken.0 on.on broken.1)), sized) in
+    let paired : AreMet (UnpairedSecret key hash ∷ WrongSecretSize key ∷ []) =
+    (λ e broken. broken.2 (fits.1 ∙ ap Some (one_curve_of key curve broken.0 on.on broken.1)), sized) in
     (λ e broken. broken.0 (ap private_kind on.is), (λ e broken. broken.0 curve on.on, paired))
 secret_met Ed25519 key alg secret fits =
     let of = fits.1 in
@@ -143,8 +147,10 @@ secret_met Ed25519 key alg secret fits =
     (λ e broken. not_x25519 (one_ed_of key ed.Ed25519 ed.X25519 of.of broken.0), (λ e broken. broken.0 of.of, sized)) in
     (λ e broken. broken.0 (ap private_kind of.is), (λ e broken. none_is_not of.bits (sym broken.0 ∙ of.public_key), known))
 
-pub writable_secret : (algorithm : SignatureAlgorithm) (key : PrivateKey) (alg : SigAlg) (secret : List ℕ) → FitsSecret algorithm key alg secret → IsMet (UnwritableSecret key)
-writable_secret (RsaPkcs1v15 hash) key alg secret fits = λ e broken. written (rsa_private_key broken.rsa) broken.source (rsa_der key.info.private_key secret fits.1 broken.rsa broken.is) broken.cause
+pub writable_secret : (algorithm : SignatureAlgorithm) (key : PrivateKey) (alg : SigAlg) (secret : List ℕ) → FitsSecret algorithm key alg secret
+    → IsMet (UnwritableSecret key)
+writable_secret (RsaPkcs1v15 hash) key alg secret fits =
+    λ e broken. written (rsa_private_key broken.rsa) broken.source (rsa_der key.info.private_key secret fits.1 broken.rsa broken.is) broken.cause
 writable_secret (Ecdsa hash) key alg secret fits = λ e broken. ec_is_not_rsa fits.3.ec broken.rsa (sym fits.3.is ∙ broken.is)
 writable_secret Ed25519 key alg secret fits = λ e broken. ed_is_not_rsa secret broken.rsa (sym fits.1.is ∙ broken.is)
 
@@ -168,20 +174,23 @@ one_asked signs algorithm key msg v w p q =
 -- ---- one error reports each rule
 
 unpaired_once : (key : PrivateKey) (hash : HashAlgorithm) (a b : SignatureError) → UnpairedSecret key hash a → UnpairedSecret key hash b → a ≡ b
-unpaired_once key hash a b p q = p.3 ∙ ap (λ (curve : EcCurve). errors.UnsupportedAlgorithm (unsupported.Pairing curve hash)) (one_curve_of key p.0 q.0 p.1 q.1) ∙ sym q.3
+unpaired_once key hash a b p q = p.3 ∙ ap (λ (curve : EcCurve). errors.UnsupportedAlgorithm (unsupported.Pairing curve hash)) (one_curve_of key p.0 q.0 p.1 q.1)
+    ∙ sym q.3
 
 unwritable_once : (key : PrivateKey) (a b : SignatureError) → UnwritableSecret key a → UnwritableSecret key b → a ≡ b
 unwritable_once key a b p q =
     let rsa : p.rsa ≡ q.rsa = same_rsa p.rsa q.rsa (sym p.is ∙ q.is) in
     let other : CantBeWritten (rsa_private_key p.rsa) q.source = subst (λ (k : RsaPrivateKey). CantBeWritten (rsa_private_key k) q.source) (sym rsa) q.cause in
     p.error
-    ∙ ap (λ (source : DerError). errors.Key (key_errors.Asn1Serialization elements.RsaPrivateKey source)) (one_source (rsa_private_key p.rsa) p.source q.source p.cause other)
+    ∙ ap (λ (source : DerError). errors.Key (key_errors.Asn1Serialization elements.RsaPrivateKey source))
+    (one_source (rsa_private_key p.rsa) p.source q.source p.cause other)
     ∙ sym q.error
 
 pub secret_one : (algorithm : SignatureAlgorithm) (key : PrivateKey) → AreReturnedOnce (secret_rules algorithm key)
 secret_one (RsaPkcs1v15 hash) key = (λ a b p q. p.1 ∙ sym q.1, tt)
 secret_one (Ecdsa hash) key = (λ a b p q. p.1 ∙ sym q.1, (λ a b p q. p.1 ∙ sym q.1, (unpaired_once key hash, (λ a b p q. p.5 ∙ sym q.5, tt))))
-secret_one Ed25519 key = (λ a b p q. p.1 ∙ sym q.1, (λ a b p q. p.1 ∙ sym q.1, (λ a b p q. p.1 ∙ sym q.1, (λ a b p q. p.1 ∙ sym q.1, (λ a b p q. p.5 ∙ sym q.5, tt)))))
+secret_one Ed25519 key =
+    (λ a b p q. p.1 ∙ sym q.1, (λ a b p q. p.1 ∙ sym q.1, (λ a b p q. p.1 ∙ sym q.1, (λ a b p q. p.1 ∙ sym q.1, (λ a b p q. p.5 ∙ sym q.5, tt)))))
 
 pub sign_one : (signs : Signs) (algorithm : SignatureAlgorithm) (key : PrivateKey) (msg : List ℕ) → AreReturnedOnce (sign_rules signs algorithm key msg)
 sign_one signs algorithm key msg =
@@ -210,7 +219,8 @@ unsigned_is_broken signs algorithm key msg asked =
     (inr (writable_secret algorithm key asked.alg asked.secret asked.fits, inl (asked, refl)))
 
 -- what the scheme made, or why it made nothing
-pub made_of : {X : Type 0} (signs : Signs) (algorithm : SignatureAlgorithm) (key : PrivateKey) (msg : List ℕ) (alg : SigAlg) (secret : List ℕ) → FitsSecret algorithm key alg secret
+pub made_of : {X : Type 0} (signs : Signs) (algorithm : SignatureAlgorithm) (key : PrivateKey) (msg : List ℕ) (alg : SigAlg) (secret : List ℕ)
+    → FitsSecret algorithm key alg secret
     → (r : Result X SignatureError)
     → MatchResult r (λ _. signs alg secret msg ≡ true) (λ e. ((signs alg secret msg ≡ false) × (e ≡ scheme_refused algorithm)) ⊎ (e ≡ errors.Memory))
     → MatchResult r (λ _. IsAsked signs algorithm key msg true) (RefusesSignatureBy (sign_rules signs algorithm key msg))
@@ -221,7 +231,8 @@ made_of signs algorithm key msg alg secret fits (Err e) (inl unsigned) =
     (unsigned_is_broken signs algorithm key msg (record { alg = alg; secret = secret; fits = fits; signed = unsigned.0 })))
 
 -- the same, given the algorithm by an equation
-pub made_by : {X : Type 0} (signs : Signs) (self algorithm : SignatureAlgorithm) → self ≡ algorithm → (key : PrivateKey) (msg : List ℕ) (alg : SigAlg) (secret : List ℕ) → FitsSecret algorithm key alg secret
+pub made_by : {X : Type 0} (signs : Signs) (self algorithm : SignatureAlgorithm) → self ≡ algorithm
+    → (key : PrivateKey) (msg : List ℕ) (alg : SigAlg) (secret : List ℕ) → FitsSecret algorithm key alg secret
     → (r : Result X SignatureError)
     → MatchResult r (λ _. signs alg secret msg ≡ true) (λ e. ((signs alg secret msg ≡ false) × (e ≡ scheme_refused algorithm)) ⊎ (e ≡ errors.Memory))
     → MatchResult r (λ _. IsAsked signs self key msg true) (RefusesSignatureBy (sign_rules signs self key msg))
@@ -266,7 +277,8 @@ pair_fits pair (Ecdsa hash) key info alg secret fits (inr (inl p)) =
       subst (λ a. pair (kind_of_algorithm a) p.1.bytes secret) (sym fits.2)
           (subst (λ k. pair k p.1.bytes secret) (sym (ecdsa_scheme fits.0))
           (subst (λ c. pair (curve_kind c) p.1.bytes secret) same
-          (subst (λ s. pair (curve_kind p.0) p.1.bytes s) (ap (λ (k : ECPrivateKey). k.private_key) (same_ec p.1.ec fits.3.ec (sym p.1.private ∙ fits.3.is)) ∙ sym fits.3.octets) p.1.paired))),
+          (subst (λ s. pair (curve_kind p.0) p.1.bytes s) (ap (λ (k : ECPrivateKey). k.private_key) (same_ec p.1.ec fits.3.ec (sym p.1.private ∙ fits.3.is))
+          ∙ sym fits.3.octets) p.1.paired))),
     )
 pair_fits pair (Ecdsa hash) key info alg secret fits (inr (inr p)) = absurd (ec_is_not_ed fits.3.ec p.1.secret (sym fits.3.is ∙ p.1.private))
 pair_fits pair Ed25519 key info alg secret fits (inl p) = absurd (rsa_is_not_ed key.info.private_key p.secret secret p.private fits.1.is)
@@ -280,7 +292,8 @@ pair_fits pair Ed25519 key info alg secret fits (inr (inr p)) =
           (subst (λ s. pair (ed_kind p.0) p.1.bits.payload s) (same_ed p.1.secret secret (sym p.1.private ∙ fits.1.is)) p.1.paired)),
     )
 
-pub pair_accepts : (judge : Judge) (pair : Pair) (algorithm : SignatureAlgorithm) (key : PrivateKey) (info : SubjectPublicKeyInfo) (alg : SigAlg) (secret msg sig : List ℕ)
+pub pair_accepts : (judge : Judge) (pair : Pair) (algorithm : SignatureAlgorithm) (key : PrivateKey) (info : SubjectPublicKeyInfo) (alg : SigAlg)
+    (secret msg sig : List ℕ)
     → FitsSecret algorithm key alg secret → ((bytes : List ℕ) → pair (kind_of_algorithm alg) bytes secret → judge alg bytes msg sig ≡ verdicts.Accept)
     → IsKeyPair pair key info → Accepts judge algorithm info msg sig
 pair_accepts judge pair algorithm key info alg secret msg sig fits made together =
@@ -300,13 +313,32 @@ made_accepts items judge pair self algorithm is key alg secret msg fits (Ok sig)
 -- ---- keys, rule by rule
 
 rsa_unwritten : (key : PrivateKey) (k : RsaPrivateKey) → key.info.private_key ≡ values.Rsa k → (x : DerError) (source : KeyError)
-    → source ≡ unwritten elements.RsaPrivateKey x → RefusesInner (rsa_private_key k ∷ []) x → RefusesSignatureBy (NotRsaSecret key ∷ UnwritableSecret key ∷ []) (key_refusal source)
+    → source ≡ unwritten elements.RsaPrivateKey x → RefusesInner (rsa_private_key k ∷ []) x
+    → RefusesSignatureBy (NotRsaSecret key ∷ UnwritableSecret key ∷ []) (key_refusal source)
 rsa_unwritten key k is (der.Malformed m) source e refused = absurd refused
 rsa_unwritten key k is der.Shape source e refused = absurd refused
 rsa_unwritten key k is der.TooDeep source e refused =
-    inl (inr (λ other broken. broken.0 (ap private_kind is), inl (record { rsa = k; is = is; source = der.TooDeep; cause = alone (rsa_private_key k) der.TooDeep deep_is_not_memory refused; error = ap key_refusal e })))
+    inl (inr (
+      λ other broken. broken.0 (ap private_kind is),
+      inl (record {
+        rsa = k;
+        is = is;
+        source = der.TooDeep;
+        cause = alone (rsa_private_key k) der.TooDeep deep_is_not_memory refused;
+        error = ap key_refusal e;
+      }),
+    ))
 rsa_unwritten key k is der.TooLong source e refused =
-    inl (inr (λ other broken. broken.0 (ap private_kind is), inl (record { rsa = k; is = is; source = der.TooLong; cause = alone (rsa_private_key k) der.TooLong long_is_not_memory refused; error = ap key_refusal e })))
+    inl (inr (
+      λ other broken. broken.0 (ap private_kind is),
+      inl (record {
+        rsa = k;
+        is = is;
+        source = der.TooLong;
+        cause = alone (rsa_private_key k) der.TooLong long_is_not_memory refused;
+        error = ap key_refusal e;
+      }),
+    ))
 rsa_unwritten key k is der.Memory source e refused = inr (ap key_refusal e)
 
 ec_is_not_of_rsa : kinds.Ec ≡ kinds.Rsa → ⊥
@@ -321,20 +353,36 @@ rsa_refused_of key (values.Rsa k) source is refused = rsa_unwritten key k is ref
 rsa_refused_of key (values.Ec k) source is refused = inl (inl (λ kind. ec_is_not_of_rsa (sym (ap private_kind is) ∙ kind), ap key_refusal refused))
 rsa_refused_of key (values.Ed k) source is refused = inl (inl (λ kind. ed_is_not_of_rsa (sym (ap private_kind is) ∙ kind), ap key_refusal refused))
 
-pub rsa_refused : (key : PrivateKey) (source : KeyError) → RefusesPrivatePkcs1 key.info.private_key source → RefusesSignatureBy (NotRsaSecret key ∷ UnwritableSecret key ∷ []) (key_refusal source)
+pub rsa_refused : (key : PrivateKey) (source : KeyError) → RefusesPrivatePkcs1 key.info.private_key source
+    → RefusesSignatureBy (NotRsaSecret key ∷ UnwritableSecret key ∷ []) (key_refusal source)
 rsa_refused key source refused = rsa_refused_of key key.info.private_key source refl refused
 
 -- an Ed25519 key has 32 octets or another size
-pub ed_sized : {X : Type 0} (now : X → List ℕ) (key : PrivateKey) (bits : BitString) (secret : List ℕ) → key.info.private_key ≡ values.Ed secret → key.public_key ≡ Some bits → HasEdOf key ed.Ed25519
+pub ed_sized : {X : Type 0} (now : X → List ℕ) (key : PrivateKey) (bits : BitString) (secret : List ℕ) → key.info.private_key ≡ values.Ed secret
+    → key.public_key ≡ Some bits → HasEdOf key ed.Ed25519
     → (r : Result X SignatureError)
-    → MatchResult r (λ octets. (now octets ≡ secret) × (length bits.payload ≡ 32) × (length secret ≡ 32)) (λ e. ((length bits.payload ≡ 32) × (length secret ≡ 32) → ⊥) × (e ≡ errors.Ed contexts.KeySize))
+    → MatchResult r (λ octets. (now octets ≡ secret) × (length bits.payload ≡ 32) × (length secret ≡ 32))
+    (λ e. ((length bits.payload ≡ 32) × (length secret ≡ 32) → ⊥) × (e ≡ errors.Ed contexts.KeySize))
     → MatchResult r (λ octets. IsEd25519Secret key (now octets)) (IsFirstBroken (secret_rules Ed25519 key))
 ed_sized now key bits secret is public of (Ok octets) sized =
     record { is = is ∙ ap values.Ed (sym sized.0); of = of; size = ap length sized.0 ∙ sized.2; bits = bits; public_key = public; public_size = sized.1 }
 ed_sized now key bits secret is public of (Err e) sized =
-    inr (λ other broken. broken.0 (ap private_kind is), inr (λ other broken. none_is_not bits (sym broken.0 ∙ public), inr (λ other broken. not_x25519 (one_ed_of key ed.Ed25519 ed.X25519 of broken.0), inr (λ other broken. broken.0 of, inl (bits, secret, public, is, sized.0, sized.1)))))
+    inr (
+      λ other broken. broken.0 (ap private_kind is),
+      inr (
+        λ other broken. none_is_not bits (sym broken.0 ∙ public),
+        inr (
+          λ other broken. not_x25519 (one_ed_of key ed.Ed25519 ed.X25519 of broken.0),
+          inr (λ other broken. broken.0 of, inl (bits, secret, public, is, sized.0, sized.1)),
+        ),
+      ),
+    )
 
-pub ed_unknown : (key : PrivateKey) (bits : BitString) (secret : List ℕ) → key.info.private_key ≡ values.Ed secret → key.public_key ≡ Some bits → ((algorithm : EdAlgorithm) → HasEdOf key algorithm → ⊥)
+pub ed_unknown : (key : PrivateKey) (bits : BitString) (secret : List ℕ) → key.info.private_key ≡ values.Ed secret → key.public_key ≡ Some bits
+    → ((algorithm : EdAlgorithm) → HasEdOf key algorithm → ⊥)
     → IsFirstBroken (secret_rules Ed25519 key) (errors.Key (key_errors.ED key_contexts.UnsupportedEd))
 ed_unknown key bits secret is public none =
-    inr (λ other broken. broken.0 (ap private_kind is), inr (λ other broken. none_is_not bits (sym broken.0 ∙ public), inr (λ other broken. none ed.X25519 broken.0, inl (none ed.Ed25519, refl))))
+    inr (
+      λ other broken. broken.0 (ap private_kind is),
+      inr (λ other broken. none_is_not bits (sym broken.0 ∙ public), inr (λ other broken. none ed.X25519 broken.0, inl (none ed.Ed25519, refl))),
+    )

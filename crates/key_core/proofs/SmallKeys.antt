@@ -39,7 +39,8 @@ use Rattle.key_core.specs.declared.key_id.KeyIdGenMethod.TheVariants.{SPKFullDER
 use Rattle.key_core.specs.declared.private_key.PrivateKey.{PrivateKey}
 use Rattle.key_core.specs.declared.private_key_value.PrivateKeyValue.{PrivateKeyValue}
 use Rattle.key_core.specs.declared.signature_algorithm.SignatureAlgorithm.TheVariants.{RsaPkcs1v15}
-use Rattle.key_core.specs.SmallKeys.{AreSmallKeys, IsSmallModulus, demo_pair, small_key_id, small_key_info, small_numbers, small_rsa_key, small_secret, with_null}
+use Rattle.key_core.specs.SmallKeys.{AreSmallKeys, IsSmallModulus, demo_pair, small_key_id, small_key_info}
+use Rattle.key_core.specs.SmallKeys.{small_numbers, small_rsa_key, small_secret, with_null}
 use Rattle.key_core.proofs.RsaSecrets.{numbers_of}
 use Rattle.key_core.proofs.SmallSecrets.{demo_key_is, integer_formed, secret_formed}
 
@@ -52,7 +53,8 @@ numbers_once a b e =
     (modulus, public_exponent)
 
 -- the encoding of the private key is the secret
-pub is_encoded : (modulus : List ℕ) (key : PrivateKey) (private : IsPrivatePkcs1 (small_secret modulus) key) → small_secret modulus ≡ encoding (rsa_private_key private.rsa)
+pub is_encoded : (modulus : List ℕ) (key : PrivateKey) (private : IsPrivatePkcs1 (small_secret modulus) key)
+    → small_secret modulus ≡ encoding (rsa_private_key private.rsa)
 is_encoded modulus key private = private.within.encoded ∙ ap encoding private.within.spelled
 
 pub is_der : (modulus : List ℕ) (key : PrivateKey) (private : IsPrivatePkcs1 (small_secret modulus) key) → IsDer (rsa_private_key private.rsa)
@@ -81,7 +83,8 @@ pub half_of : (modulus : List ℕ) (key : PrivateKey) (info : SubjectPublicKeyIn
 half_of modulus key info keys =
     subst (λ (v : PrivateKeyValue). IsPublicHalf v (container_of key).private_key_algorithm (point_beside key) info) keys.private.container.is keys.public
 
-pub info_is : (modulus : List ℕ) (key : PrivateKey) (info : SubjectPublicKeyInfo) → AreSmallKeys modulus key info → public_key_info info ≡ small_key_info modulus
+pub info_is : (modulus : List ℕ) (key : PrivateKey) (info : SubjectPublicKeyInfo) → AreSmallKeys modulus key info
+    → public_key_info info ≡ small_key_info modulus
 info_is modulus key info keys =
     let half = half_of modulus key info keys in
     let algorithm : algorithm_identifier info.algorithm ≡ with_null RSA_ENCRYPTION.now =
@@ -104,7 +107,8 @@ rsa_der modulus small = record {
   short = light_short (small_rsa_key modulus) (omega (arith, small.few));
 }
 
-pub keys_pair : (modulus : List ℕ) → IsSmallModulus modulus → (key : PrivateKey) (info : SubjectPublicKeyInfo) → AreSmallKeys modulus key info → IsKeyPair demo_pair key info
+pub keys_pair : (modulus : List ℕ) → IsSmallModulus modulus → (key : PrivateKey) (info : SubjectPublicKeyInfo) → AreSmallKeys modulus key info
+    → IsKeyPair demo_pair key info
 keys_pair modulus small key info keys =
     let half = half_of modulus key info keys in
     let same = rsa_is modulus key info keys in
@@ -113,7 +117,8 @@ keys_pair modulus small key info keys =
       bytes = bytes;
       secret = small_secret modulus;
       public = subst (λ (k : SubjectKey). IsPkcs1Of k bytes) (sym half.is) (refl, subst IsDer (sym same) (rsa_der modulus small));
-      private = subst (λ (v : PrivateKeyValue). IsPkcs1OfPrivate v (small_secret modulus)) (sym keys.private.container.is) (is_encoded modulus key keys.private, is_der modulus key keys.private);
+      private = subst (λ (v : PrivateKeyValue). IsPkcs1OfPrivate v (small_secret modulus)) (sym keys.private.container.is)
+          (is_encoded modulus key keys.private, is_der modulus key keys.private);
       paired = demo_key_is modulus small ∙ ap (λ (e : DerElement). Some (encoding e)) (sym same);
     })
 
@@ -123,12 +128,14 @@ accepted_if true false e = absurd cc
 accepted_if false same e = absurd cc
 
 -- an accepted signature has 32 octets
-pub signature_length : (info : SubjectPublicKeyInfo) (message signature : List ℕ) → Accepts demo_verdict (RsaPkcs1v15 SHA2_256) info message signature → length signature ≡ 32
+pub signature_length : (info : SubjectPublicKeyInfo) (message signature : List ℕ) → Accepts demo_verdict (RsaPkcs1v15 SHA2_256) info message signature
+    → length signature ≡ 32
 signature_length info message signature accepted =
     eqb-true (length signature) 32
     (accepted_if (length signature == 32) (bytes_eq signature (demo_signature accepted.alg accepted.bytes message)) accepted.judged).0
 
-accepted_is : (alg : SigAlg) (bytes message signature : List ℕ) → demo_verdict alg bytes message signature ≡ Accept → signature ≡ demo_signature alg bytes message
+accepted_is : (alg : SigAlg) (bytes message signature : List ℕ) → demo_verdict alg bytes message signature ≡ Accept
+    → signature ≡ demo_signature alg bytes message
 accepted_is alg bytes message signature e =
     (bytes_eq-Decides signature (demo_signature alg bytes message)).0
     (accepted_if (length signature == 32) (bytes_eq signature (demo_signature alg bytes message)) e).1

@@ -64,7 +64,8 @@ keys_small modulus small key info keys =
     ∙ ap (λ (k : DerElement). small_rsa_key modulus ∷ k ∷ []) (info_is modulus key info keys) in
     subst AreSmall (sym same) (rsa_small modulus small, (key_small modulus small, tt))
 
-pub identifier_or_memory : (modulus : List ℕ) → IsSmallModulus modulus → (key : PrivateKey) (info : SubjectPublicKeyInfo) (e : KeyIdGenError) → AreSmallKeys modulus key info
+pub identifier_or_memory : (modulus : List ℕ) → IsSmallModulus modulus → (key : PrivateKey) (info : SubjectPublicKeyInfo) (e : KeyIdGenError)
+    → AreSmallKeys modulus key info
     → RefusesWhole info e → e ≡ id_errors.Memory
 identifier_or_memory modulus small key info (id_errors.InvalidKey source) keys refused =
     let memory = only_memory _ refused.0.0 (keys_small modulus small key info keys) refused.0.2 in
@@ -86,7 +87,8 @@ rsa_once a b e = cc
 can_write : (modulus : List ℕ) (key : PrivateKey) (e : SignatureError) → IsPrivatePkcs1 (small_secret modulus) key → UnwritableSecret key e → ⊥
 can_write modulus key e private refused =
     let same : private.rsa ≡ refused.rsa = rsa_once private.rsa refused.rsa (sym private.container.is ∙ refused.is) in
-    written (rsa_private_key refused.rsa) refused.source (subst (λ (r : RsaPrivateKey). IsDer (rsa_private_key r)) same (is_der modulus key private)) refused.cause.cause refused.cause.not_memory
+    written (rsa_private_key refused.rsa) refused.source (subst (λ (r : RsaPrivateKey). IsDer (rsa_private_key r)) same (is_der modulus key private))
+    refused.cause.cause refused.cause.not_memory
 
 differ : false ≡ true → ⊥
 differ e = absurd cc
@@ -102,10 +104,12 @@ signs_all modulus small key message private asked =
     ap (λ (a : SigAlg). demo_signs a asked.secret) asked.fits.0 ∙ ap (λ (s : List ℕ). demo_signs RsaSha256 s) secret in
     absurd (differ (sym asked_for ∙ same ∙ signs))
 
-pub signature_or_memory : (modulus : List ℕ) → IsSmallModulus modulus → (key : PrivateKey) (message : List ℕ) (e : SignatureError) → IsPrivatePkcs1 (small_secret modulus) key
+pub signature_or_memory : (modulus : List ℕ) → IsSmallModulus modulus → (key : PrivateKey) (message : List ℕ) (e : SignatureError)
+    → IsPrivatePkcs1 (small_secret modulus) key
     → RefusesSignatureBy (sign_rules signs_by_demo (RsaPkcs1v15 SHA2_256) key message) e → e ≡ signature_errors.Memory
 signature_or_memory modulus small key message e private (inr memory) = memory
 signature_or_memory modulus small key message e private (inl (inl other)) = absurd (other.0 (ap private_kind private.container.is))
 signature_or_memory modulus small key message e private (inl (inr (met, inl long))) = absurd (can_write modulus key e private long)
-signature_or_memory modulus small key message e private (inl (inr (met, inr (fine, inl unsigned)))) = absurd (signs_all modulus small key message private unsigned.0)
+signature_or_memory modulus small key message e private (inl (inr (met, inr (fine, inl unsigned)))) =
+    absurd (signs_all modulus small key message private unsigned.0)
 signature_or_memory modulus small key message e private (inl (inr (met, inr (fine, inr (signed, none))))) = absurd none

@@ -23,9 +23,23 @@ pub integer_formed : (contents : List ℕ) → IsWellFormed (integer_of contents
 integer_formed contents = ((omega arith, omega arith, omega arith), refl)
 
 pub secret_formed : (modulus : List ℕ) → IsWellFormed (rsa_private_element (small_numbers modulus))
-secret_formed modulus =
-    ((omega arith, omega arith, omega arith), refl, (integer_formed (0 ∷ []), (integer_formed modulus, (integer_formed (3 ∷ []), (integer_formed (5 ∷ []),
-    (integer_formed (7 ∷ []), (integer_formed (11 ∷ []), (integer_formed (1 ∷ []), (integer_formed (2 ∷ []), (integer_formed (4 ∷ []), tt))))))))))
+secret_formed modulus = (
+  (omega arith, omega arith, omega arith),
+  refl,
+  (
+    integer_formed (0 ∷ []),
+    (
+      integer_formed modulus,
+      (
+        integer_formed (3 ∷ []),
+        (
+          integer_formed (5 ∷ []),
+          (integer_formed (7 ∷ []), (integer_formed (11 ∷ []), (integer_formed (1 ∷ []), (integer_formed (2 ∷ []), (integer_formed (4 ∷ []), tt))))),
+        ),
+      ),
+    ),
+  ),
+)
 
 module _ (modulus : List ℕ) (small : IsSmallModulus modulus) where
   pub secret_der : IsDer (rsa_private_element (small_numbers modulus))

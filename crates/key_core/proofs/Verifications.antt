@@ -25,7 +25,8 @@ use Rattle.key_core.specs.KeyRefusals.{CantBeWritten, unwritten}
 use Rattle.key_core.specs.Pkcs1.{IsPkcs1Of, RefusesPkcs1}
 use Rattle.key_core.specs.SchemeNames.{ecdsa_alg}
 use Rattle.key_core.specs.SignatureRules.{RefusesSignatureBy, key_refusal}
-use Rattle.key_core.specs.Verifying.{Judge, IsOnCurve, IsOfEd, IsEd25519Key, FitsKey, IsJudged, Accepts, NotRsa, Unwritable, UnknownHash, Unpaired, ForAgreement, NotEd25519, WrongSize, Malformed, Rejected, malformed, key_rules, verify_rules}
+use Rattle.key_core.specs.Verifying.{Judge, IsOnCurve, IsOfEd, IsEd25519Key, FitsKey, IsJudged, Accepts, NotRsa, Unwritable, UnknownHash}
+use Rattle.key_core.specs.Verifying.{Unpaired, ForAgreement, NotEd25519, WrongSize, Malformed, Rejected, malformed, key_rules, verify_rules}
 use Rattle.key_core.specs.declared.ec_curve.EcCurve.{EcCurve}
 use Rattle.key_core.specs.declared.ed_algorithm.EdAlgorithm.{EdAlgorithm}
 use Rattle.key_core.specs.declared.ed_algorithm.EdAlgorithm.TheVariants as ed
@@ -88,7 +89,8 @@ ec_is_not_rsa bits k e = cc
 ed_is_not_rsa : (bits : BitString) (k : RsaPublicKey) → keys.Ed bits ≡ keys.Rsa k → ⊥
 ed_is_not_rsa bits k e = cc
 
-pub key_met : (algorithm : SignatureAlgorithm) (info : SubjectPublicKeyInfo) (alg : SigAlg) (bytes : List ℕ) → FitsKey algorithm info alg bytes → AreMet (key_rules algorithm info)
+pub key_met : (algorithm : SignatureAlgorithm) (info : SubjectPublicKeyInfo) (alg : SigAlg) (bytes : List ℕ) → FitsKey algorithm info alg bytes
+    → AreMet (key_rules algorithm info)
 key_met (RsaPkcs1v15 hash) info alg bytes fits = (λ e broken. broken.0 (rsa_kind info.subject_public_key bytes fits.1), tt)
 key_met (Ecdsa hash) info alg bytes fits =
     let curve = fits.0 in
@@ -101,13 +103,17 @@ key_met (Ecdsa hash) info alg bytes fits =
     not_none x e = cc
 key_met Ed25519 info alg bytes fits =
     let key = fits.1 in
-    let sized : AreMet (WrongSize info ∷ []) =
-    (λ e broken. broken.2 (ap (λ (b : BitString). length b.payload) (same_ed broken.0 key.bits (sym broken.1 ∙ key.is)) ∙ ap length (sym key.payload) ∙ key.size), tt) in
+    let sized : AreMet (WrongSize info ∷ []) = (
+      λ e broken. broken.2 (ap (λ (b : BitString). length b.payload) (same_ed broken.0 key.bits (sym broken.1 ∙ key.is)) ∙ ap length (sym key.payload)
+          ∙ key.size),
+      tt,
+    ) in
     let known : AreMet (ForAgreement info ∷ NotEd25519 info ∷ WrongSize info ∷ []) =
     (λ e broken. not_x25519 (one_ed info ed.Ed25519 ed.X25519 key.of broken.0), (λ e broken. broken.0 key.of, sized)) in
     (λ e broken. broken.0 (ap kind_of_key key.is), known)
 
-pub writable : (algorithm : SignatureAlgorithm) (info : SubjectPublicKeyInfo) (alg : SigAlg) (bytes : List ℕ) → FitsKey algorithm info alg bytes → IsMet (Unwritable info)
+pub writable : (algorithm : SignatureAlgorithm) (info : SubjectPublicKeyInfo) (alg : SigAlg) (bytes : List ℕ) → FitsKey algorithm info alg bytes
+    → IsMet (Unwritable info)
 writable (RsaPkcs1v15 hash) info alg bytes
     fits = λ e broken. written (rsa_public_key broken.key) broken.source (rsa_der info.subject_public_key bytes fits.1 broken.key broken.is) broken.cause
 writable (Ecdsa hash) info alg bytes fits = λ e broken. ec_is_not_rsa fits.3.bits broken.key (sym fits.3.is ∙ broken.is)
@@ -142,14 +148,16 @@ one_verdict judge algorithm info msg sig v w p q =
 -- ---- one error reports each rule
 
 unpaired_once : (info : SubjectPublicKeyInfo) (hash : HashAlgorithm) (a b : SignatureError) → Unpaired info hash a → Unpaired info hash b → a ≡ b
-unpaired_once info hash a b p q = p.3 ∙ ap (λ (curve : EcCurve). errors.UnsupportedAlgorithm (unsupported.Pairing curve hash)) (one_curve info p.0 q.0 p.1 q.1) ∙ sym q.3
+unpaired_once info hash a b p q = p.3 ∙ ap (λ (curve : EcCurve). errors.UnsupportedAlgorithm (unsupported.Pairing curve hash)) (one_curve info p.0 q.0 p.1 q.1)
+    ∙ sym q.3
 
 unwritable_once : (info : SubjectPublicKeyInfo) (a b : SignatureError) → Unwritable info a → Unwritable info b → a ≡ b
 unwritable_once info a b p q =
     let key : p.key ≡ q.key = same_rsa p.key q.key (sym p.is ∙ q.is) in
     let other : CantBeWritten (rsa_public_key p.key) q.source = subst (λ (k : RsaPublicKey). CantBeWritten (rsa_public_key k) q.source) (sym key) q.cause in
     p.error
-    ∙ ap (λ (source : DerError). errors.Key (key_errors.Asn1Serialization elements.RsaPublicKey source)) (one_source (rsa_public_key p.key) p.source q.source p.cause other)
+    ∙ ap (λ (source : DerError). errors.Key (key_errors.Asn1Serialization elements.RsaPublicKey source))
+    (one_source (rsa_public_key p.key) p.source q.source p.cause other)
     ∙ sym q.error
 
 pub key_one : (algorithm : SignatureAlgorithm) (info : SubjectPublicKeyInfo) → AreReturnedOnce (key_rules algorithm info)
@@ -157,7 +165,8 @@ key_one (RsaPkcs1v15 hash) info = (λ a b p q. p.1 ∙ sym q.1, tt)
 key_one (Ecdsa hash) info = (λ a b p q. p.1 ∙ sym q.1, (λ a b p q. p.1 ∙ sym q.1, (λ a b p q. p.1 ∙ sym q.1, (unpaired_once info hash, tt))))
 key_one Ed25519 info = (λ a b p q. p.1 ∙ sym q.1, (λ a b p q. p.1 ∙ sym q.1, (λ a b p q. p.1 ∙ sym q.1, (λ a b p q. p.3 ∙ sym q.3, tt))))
 
-pub verify_one : (judge : Judge) (algorithm : SignatureAlgorithm) (info : SubjectPublicKeyInfo) (msg sig : List ℕ) → AreReturnedOnce (verify_rules judge algorithm info msg sig)
+pub verify_one : (judge : Judge) (algorithm : SignatureAlgorithm) (info : SubjectPublicKeyInfo) (msg sig : List ℕ)
+    → AreReturnedOnce (verify_rules judge algorithm info msg sig)
 verify_one judge algorithm info msg sig =
     returned_together (key_rules algorithm info) (Unwritable info ∷ Malformed judge algorithm info msg sig ∷ Rejected judge algorithm info msg sig ∷ [])
     (key_one algorithm info) (unwritable_once info, (λ a b p q. p.1 ∙ sym q.1, (λ a b p q. p.1 ∙ sym q.1, tt)))
@@ -178,7 +187,8 @@ accepted_is_met judge algorithm info msg sig e accepts broken =
     later : IsFirstBroken (Unwritable info ∷ Malformed judge algorithm info msg sig ∷ Rejected judge algorithm info msg sig ∷ []) e → ⊥
     later (inl broken) = writable algorithm info accepts.alg accepts.bytes accepts.fits e broken
     later (inr (met, inl malformed)) = accept_is_not_malformed (one_verdict judge algorithm info msg sig verdicts.Accept verdicts.Malformed accepts malformed.0)
-    later (inr (met, inr (formed, inl rejected))) = accept_is_not_reject (one_verdict judge algorithm info msg sig verdicts.Accept verdicts.Reject accepts rejected.0)
+    later (inr (met, inr (formed, inl rejected))) =
+        accept_is_not_reject (one_verdict judge algorithm info msg sig verdicts.Accept verdicts.Reject accepts rejected.0)
     later (inr (met, inr (formed, inr none))) = none.1
 
 pub malformed_is_broken : (judge : Judge) (algorithm : SignatureAlgorithm) (info : SubjectPublicKeyInfo) (msg sig : List ℕ)
@@ -203,7 +213,8 @@ long_is_not_memory e = cc
 
 -- why an RSA key isn't written, as an error of a signature
 rsa_unwritten : (info : SubjectPublicKeyInfo) (k : RsaPublicKey) → info.subject_public_key ≡ keys.Rsa k → (x : DerError) (source : KeyError)
-    → source ≡ unwritten elements.RsaPublicKey x → RefusesInner (rsa_public_key k ∷ []) x → RefusesSignatureBy (NotRsa info ∷ Unwritable info ∷ []) (key_refusal source)
+    → source ≡ unwritten elements.RsaPublicKey x → RefusesInner (rsa_public_key k ∷ []) x
+    → RefusesSignatureBy (NotRsa info ∷ Unwritable info ∷ []) (key_refusal source)
 rsa_unwritten info k is (der.Malformed m) source e refused = absurd refused
 rsa_unwritten info k is der.Shape source e refused = absurd refused
 rsa_unwritten info k is der.TooDeep source e refused =
@@ -244,15 +255,20 @@ pub rsa_refused : (info : SubjectPublicKeyInfo) (source : KeyError) → kind_of_
 rsa_refused info source kind refused = rsa_refused_of info info.subject_public_key source refl kind refused
 
 -- an Ed25519 key has 32 octets or another size
-pub ed_sized : {X : Type 0} (now : X → List ℕ) (info : SubjectPublicKeyInfo) (bits : BitString) → info.subject_public_key ≡ keys.Ed bits → IsOfEd info ed.Ed25519
+pub ed_sized : {X : Type 0} (now : X → List ℕ) (info : SubjectPublicKeyInfo) (bits : BitString) → info.subject_public_key ≡ keys.Ed bits
+    → IsOfEd info ed.Ed25519
     → (r : Result X SignatureError)
     → MatchResult r (λ bytes. (now bytes ≡ bits.payload) × (length (now bytes) ≡ 32))
     (λ e. (length bits.payload ≢ 32) × (e ≡ errors.Ed contexts.KeySize))
     → MatchResult r (λ bytes. IsEd25519Key info (now bytes)) (IsFirstBroken (key_rules Ed25519 info))
 ed_sized now info bits is of (Ok bytes) sized = record { bits = bits; is = is; of = of; payload = sized.0; size = sized.1 }
 ed_sized now info bits is of (Err e) sized =
-    inr (λ other broken. broken.0 (ap kind_of_key is), inr (λ other broken. not_x25519 (one_ed info ed.Ed25519 ed.X25519 of broken.0), inr (λ other broken. broken.0 of, inl (bits, is, sized.0, sized.1))))
+    inr (
+      λ other broken. broken.0 (ap kind_of_key is),
+      inr (λ other broken. not_x25519 (one_ed info ed.Ed25519 ed.X25519 of broken.0), inr (λ other broken. broken.0 of, inl (bits, is, sized.0, sized.1))),
+    )
 
-pub ed_unknown : (info : SubjectPublicKeyInfo) (bits : BitString) → info.subject_public_key ≡ keys.Ed bits → ((algorithm : EdAlgorithm) → IsOfEd info algorithm → ⊥)
+pub ed_unknown : (info : SubjectPublicKeyInfo) (bits : BitString) → info.subject_public_key ≡ keys.Ed bits
+    → ((algorithm : EdAlgorithm) → IsOfEd info algorithm → ⊥)
     → IsFirstBroken (key_rules Ed25519 info) (errors.Key (key_errors.ED key_contexts.UnsupportedEd))
 ed_unknown info bits is none = inr (λ other broken. broken.0 (ap kind_of_key is), inr (λ other broken. none ed.X25519 broken.0, inl (none ed.Ed25519, refl)))

@@ -17,26 +17,43 @@ use Rattle.key_core.specs.declared.private_key_value.PrivateKeyValue.TheVariants
 abbrev Holds : {X : Type 0} → (X → DerElement) → List ℕ → X → Type 0
 Holds {X} written octets value = IsWithin (λ (element : DerElement) (x : X). element ≡ written x) octets value
 
-pub rsa_of : (kind : KeyKind) (octets : List ℕ) → kind ≡ kinds.Rsa → (key : RsaPrivateKey) → Holds rsa_private_key octets key → IsPrivateKeyOf kind octets (values.Rsa key)
-rsa_of kind octets is key within = record { of_kind = sym is; encoded = within.encoded ∙ ap encoding within.spelled; der = subst IsDer within.spelled within.der }
+pub rsa_of : (kind : KeyKind) (octets : List ℕ) → kind ≡ kinds.Rsa → (key : RsaPrivateKey) → Holds rsa_private_key octets key
+    → IsPrivateKeyOf kind octets (values.Rsa key)
+rsa_of kind octets is key within = record {
+  of_kind = sym is;
+  encoded = within.encoded ∙ ap encoding within.spelled;
+  der = subst IsDer within.spelled within.der;
+}
 
-pub ec_of : (kind : KeyKind) (octets : List ℕ) → kind ≡ kinds.Ec → (key : ECPrivateKey) → Holds ec_private_key octets key → IsPrivateKeyOf kind octets (values.Ec key)
-ec_of kind octets is key within = record { of_kind = sym is; encoded = within.encoded ∙ ap encoding within.spelled; der = subst IsDer within.spelled within.der }
+pub ec_of : (kind : KeyKind) (octets : List ℕ) → kind ≡ kinds.Ec → (key : ECPrivateKey) → Holds ec_private_key octets key
+    → IsPrivateKeyOf kind octets (values.Ec key)
+ec_of kind octets is key within = record {
+  of_kind = sym is;
+  encoded = within.encoded ∙ ap encoding within.spelled;
+  der = subst IsDer within.spelled within.der;
+}
 
 pub ed_of : (kind : KeyKind) (octets : List ℕ) → kind ≡ kinds.Ed → (key : List ℕ) → Holds octet_string octets key → IsPrivateKeyOf kind octets (values.Ed key)
-ed_of kind octets is key within = record { of_kind = sym is; encoded = within.encoded ∙ ap encoding within.spelled; der = subst IsDer within.spelled within.der }
+ed_of kind octets is key within = record {
+  of_kind = sym is;
+  encoded = within.encoded ∙ ap encoding within.spelled;
+  der = subst IsDer within.spelled within.der;
+}
 
-pub of_rsa : (kind : KeyKind) (octets : List ℕ) → kind ≡ kinds.Rsa → (key : PrivateKeyValue) → IsPrivateKeyOf kind octets key → (k : RsaPrivateKey) × Holds rsa_private_key octets k
+pub of_rsa : (kind : KeyKind) (octets : List ℕ) → kind ≡ kinds.Rsa → (key : PrivateKeyValue) → IsPrivateKeyOf kind octets key
+    → (k : RsaPrivateKey) × Holds rsa_private_key octets k
 of_rsa kind octets is (values.Rsa k) of = (k, record { element = rsa_private_key k; der = of.der; encoded = of.encoded; spelled = refl })
 of_rsa kind octets is (values.Ec k) of = absurd cc (of.of_kind, is)
 of_rsa kind octets is (values.Ed k) of = absurd cc (of.of_kind, is)
 
-pub of_ec : (kind : KeyKind) (octets : List ℕ) → kind ≡ kinds.Ec → (key : PrivateKeyValue) → IsPrivateKeyOf kind octets key → (k : ECPrivateKey) × Holds ec_private_key octets k
+pub of_ec : (kind : KeyKind) (octets : List ℕ) → kind ≡ kinds.Ec → (key : PrivateKeyValue) → IsPrivateKeyOf kind octets key
+    → (k : ECPrivateKey) × Holds ec_private_key octets k
 of_ec kind octets is (values.Rsa k) of = absurd cc (of.of_kind, is)
 of_ec kind octets is (values.Ec k) of = (k, record { element = ec_private_key k; der = of.der; encoded = of.encoded; spelled = refl })
 of_ec kind octets is (values.Ed k) of = absurd cc (of.of_kind, is)
 
-pub of_ed : (kind : KeyKind) (octets : List ℕ) → kind ≡ kinds.Ed → (key : PrivateKeyValue) → IsPrivateKeyOf kind octets key → (k : List ℕ) × Holds octet_string octets k
+pub of_ed : (kind : KeyKind) (octets : List ℕ) → kind ≡ kinds.Ed → (key : PrivateKeyValue) → IsPrivateKeyOf kind octets key
+    → (k : List ℕ) × Holds octet_string octets k
 of_ed kind octets is (values.Rsa k) of = absurd cc (of.of_kind, is)
 of_ed kind octets is (values.Ec k) of = absurd cc (of.of_kind, is)
 of_ed kind octets is (values.Ed k) of = (k, record { element = octet_string k; der = of.der; encoded = of.encoded; spelled = refl })

@@ -36,7 +36,8 @@ of_parts t k p b is octets key curve parameters bits public_key = (
 pub parts_of : (t k : DerElement) (p b : Option DerElement) → t ≡ ec_private_key_of k p b → (key : ECPrivateKey) → t ≡ ec_private_key key
     → (k ≡ octet_string key.private_key) × SpellsOption (Prints object_identifier) p key.parameters × SpellsOption (Prints bit_string) b key.public_key
 parts_of t k p b is key spells =
-    let parts = fields_once k (octet_string key.private_key) p (option_map object_identifier key.parameters) b (option_map bit_string key.public_key) (sym is ∙ spells) in
+    let parts = fields_once k (octet_string key.private_key) p (option_map object_identifier key.parameters) b (option_map bit_string key.public_key)
+    (sym is ∙ spells) in
     (parts.0, option_printed object_identifier p key.parameters parts.1, option_printed bit_string b key.public_key parts.2)
 
 -- ---- equality
@@ -59,7 +60,8 @@ bits_same a b =
       λ t.
           let parts = and_parts (a.unused == b.unused) (bytes_eq a.payload b.payload) t in
           same_bits a b (unused.0 parts.0) (payload.0 parts.1),
-      λ e. and_from (a.unused == b.unused) (bytes_eq a.payload b.payload) (unused.1 (ap (λ (v : BitString). v.unused) e)) (payload.1 (ap (λ (v : BitString). v.payload) e)),
+      λ e. and_from (a.unused == b.unused) (bytes_eq a.payload b.payload) (unused.1 (ap (λ (v : BitString). v.unused) e))
+          (payload.1 (ap (λ (v : BitString). v.payload) e)),
     )
 
 curves_same : (a b : Option ObjectIdentifier) → IsTrue (option_eq oid_eq a b) ↔ (a ≡ b)
@@ -69,7 +71,8 @@ points_same : (a b : Option BitString) → IsTrue (option_eq bits_eq a b) ↔ (a
 points_same = options_same bits_eq bits_same
 
 -- the other fields are the same, so the keys are if the points are
-pub by_point : (a b : ECPrivateKey) (first last : Bool) → a.private_key ≡ b.private_key → first ≡ option_eq oid_eq a.parameters b.parameters → IsTrue first → last ≡ option_eq bits_eq a.public_key b.public_key
+pub by_point : (a b : ECPrivateKey) (first last : Bool) → a.private_key ≡ b.private_key → first ≡ option_eq oid_eq a.parameters b.parameters → IsTrue first
+    → last ≡ option_eq bits_eq a.public_key b.public_key
     → IsTrue last ↔ (a ≡ b)
 by_point a b first last key curves w points =
     let parameters = (curves_same a.parameters b.parameters).0 (sym curves ∙ w) in
@@ -81,12 +84,14 @@ by_point a b first last key curves w points =
     )
 
 -- the curves aren't the same, so the keys aren't
-pub other_curve : (a b : ECPrivateKey) (value test : Bool) → value ≡ test → test ≡ option_eq oid_eq a.parameters b.parameters → value ≡ false → IsTrue value ↔ (a ≡ b)
+pub other_curve : (a b : ECPrivateKey) (value test : Bool) → value ≡ test → test ≡ option_eq oid_eq a.parameters b.parameters → value ≡ false
+    → IsTrue value ↔ (a ≡ b)
 other_curve a b value test is curves not =
     let same = curves_same a.parameters b.parameters in
     (λ t. absurd cc (not, t), λ e. is ∙ curves ∙ same.1 (ap (λ (k : ECPrivateKey). k.parameters) e))
 
 -- the numbers aren't the same, so the keys aren't
-pub other_secret : (a b : ECPrivateKey) (value test : Bool) → (IsTrue test ↔ (a.private_key ≡ b.private_key)) → test ≡ false → value ≡ false → IsTrue value ↔ (a ≡ b)
+pub other_secret : (a b : ECPrivateKey) (value test : Bool) → (IsTrue test ↔ (a.private_key ≡ b.private_key)) → test ≡ false → value ≡ false
+    → IsTrue value ↔ (a ≡ b)
 other_secret a b value test same unlike is =
     (λ t. absurd cc (is, t), λ e. absurd cc (unlike, same.1 (ap (λ (k : ECPrivateKey). k.private_key) e)))

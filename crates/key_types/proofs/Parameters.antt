@@ -43,13 +43,15 @@ decided false none = absurd (none refl)
 
 -- an algorithm is for keys of a kind if the fields of its element say so
 pub of_fields : (element oid : DerElement) (parameters : Option DerElement) (contents : List ℕ) (a : AlgorithmIdentifier) (kind : KeyKind)
-    → element ≡ algorithm_of oid parameters → oid ≡ Primitive 0x06 contents → element ≡ algorithm_identifier a → IsAlgorithmWith kind contents parameters → IsAlgorithmOf kind a
+    → element ≡ algorithm_of oid parameters → oid ≡ Primitive 0x06 contents → element ≡ algorithm_identifier a → IsAlgorithmWith kind contents parameters
+    → IsAlgorithmOf kind a
 of_fields element oid parameters contents a kind fields leaf is with =
     let kids = same_fields (oid ∷ option_to_list parameters) (object_identifier a.oid ∷ option_to_list (kept_option a.parameters)) (sym fields ∙ is) in
     let first : oid ≡ object_identifier a.oid = cc in
     let others : option_to_list parameters ≡ option_to_list (kept_option a.parameters) = cc in
     let same : contents ≡ identifier_contents a.oid = leaf_once contents (identifier_contents a.oid) (sym leaf ∙ first) in
-    subst (λ (o : List ℕ). IsAlgorithmWith kind o (kept_option a.parameters)) same (subst (λ (p : Option DerElement). IsAlgorithmWith kind contents p) (kept_once parameters (kept_option a.parameters) others) with)
+    subst (λ (o : List ℕ). IsAlgorithmWith kind o (kept_option a.parameters)) same
+    (subst (λ (p : Option DerElement). IsAlgorithmWith kind contents p) (kept_once parameters (kept_option a.parameters) others) with)
   where
     leaf_once : (x y : List ℕ) → Primitive 0x06 x ≡ Primitive 0x06 y → x ≡ y
     leaf_once x y e = cc

@@ -5,7 +5,8 @@ use Rattle.asn1_types.specs.ObjectIdentifier.{IsArcs, IsIdentifier, contents_of}
 use Rattle.asn1_types.specs.Facts.OneIdentifier.{contents_once}
 use Rattle.asn1_types.specs.KnownIdentifiers.{is_known}
 use Rattle.name_types.specs.declared.name_attr.NameAttr.{NameAttr}
-use Rattle.name_types.specs.declared.name_attr.NameAttr.TheVariants.{CommonName, Surname, SerialNumber, CountryName, LocalityName, StateOrProvinceName, StreetName, OrganizationName, OrganizationalUnitName, GivenName}
+use Rattle.name_types.specs.declared.name_attr.NameAttr.TheVariants.{CommonName, Surname, SerialNumber, CountryName, LocalityName, StateOrProvinceName}
+use Rattle.name_types.specs.declared.name_attr.NameAttr.TheVariants.{StreetName, OrganizationName, OrganizationalUnitName, GivenName}
 use Rattle.name_types.specs.NameAttr.{attribute_arc, attribute_arcs, attribute_type, attribute_types}
 
 -- the contents octets of the OIDs

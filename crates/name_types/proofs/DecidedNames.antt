@@ -37,16 +37,20 @@ some_value element der = inl (value_at (encoding element) (tag_of element) (cont
 
 attribute_or_not : (element : DerElement) → IsDer element → IsSomeOrNone attribute_type_and_value element
 attribute_or_not element der =
-    in_form (λ (p : ObjectIdentifier × AttributeValue). Constructed 0x30 (Cons (object_identifier p.0) (Cons (attribute_value p.1) Nil))) attribute_type_and_value
+    in_form (λ (p : ObjectIdentifier × AttributeValue). Constructed 0x30 (Cons (object_identifier p.0) (Cons (attribute_value p.1) Nil)))
+    attribute_type_and_value
     (λ p. record { ty = p.0; value = p.1 }) (λ attribute. (attribute.ty, attribute.value)) element (λ p. refl) (λ attribute. refl)
     (branch_or_not 0x30 (λ (p : ObjectIdentifier × AttributeValue). Cons (object_identifier p.0) (Cons (attribute_value p.1) Nil))
-    (two_or_not object_identifier (λ (v : AttributeValue). Cons (attribute_value v) Nil) oid_element_or_not (only_or_not attribute_value some_value)) element der)
+    (two_or_not object_identifier (λ (v : AttributeValue). Cons (attribute_value v) Nil) oid_element_or_not (only_or_not attribute_value some_value))
+    element der)
 
 set_or_not : (element : DerElement) → IsDer element → IsSomeOrNone relative_distinguished_name element
-set_or_not element der = branch_or_not 0x31 (λ members. row (map attribute_type_and_value members)) (each_or_not attribute_type_and_value attribute_or_not) element der
+set_or_not element der =
+    branch_or_not 0x31 (λ members. row (map attribute_type_and_value members)) (each_or_not attribute_type_and_value attribute_or_not) element der
 
 name_or_not : (element : DerElement) → IsDer element → IsSomeOrNone name element
-name_or_not element der = branch_or_not 0x30 (λ sets. row (map relative_distinguished_name sets)) (each_or_not relative_distinguished_name set_or_not) element der
+name_or_not element der =
+    branch_or_not 0x30 (λ sets. row (map relative_distinguished_name sets)) (each_or_not relative_distinguished_name set_or_not) element der
 
 -- ---- names of other forms
 
@@ -97,12 +101,14 @@ assigner_element_or_not : (element : DerElement) → IsDer element → IsSomeOrN
 assigner_element_or_not element der = explicit_or_not 0xA0 directory_string directory_string_or_not element der
 
 one_string_or_not : (element : DerElement) → IsDer element → IsSomeOrNone one_string element
-one_string_or_not element der = branch_or_not 0xA5 (λ (s : DirectoryString). Cons (party_element s) Nil) (only_or_not party_element party_element_or_not) element der
+one_string_or_not element der =
+    branch_or_not 0xA5 (λ (s : DirectoryString). Cons (party_element s) Nil) (only_or_not party_element party_element_or_not) element der
 
 two_strings_or_not : (element : DerElement) → IsDer element → IsSomeOrNone two_strings element
 two_strings_or_not element der =
     branch_or_not 0xA5 (λ (p : DirectoryString × DirectoryString). Cons (assigner_element p.0) (Cons (party_element p.1) Nil))
-    (two_or_not assigner_element (λ (s : DirectoryString). Cons (party_element s) Nil) assigner_element_or_not (only_or_not party_element party_element_or_not)) element der
+    (two_or_not assigner_element (λ (s : DirectoryString). Cons (party_element s) Nil) assigner_element_or_not (only_or_not party_element party_element_or_not))
+    element der
 
 no_party : (element : DerElement) → IsNone one_string element → IsNone two_strings element
     → (assigner : Option DirectoryString) (party : DirectoryString) → element ≡ edi_party_name (party_of assigner party) → ⊥

@@ -17,7 +17,8 @@ use Rattle.name_types.specs.declared.attribute_value.AttributeValue.{AttributeVa
 use Rattle.name_types.specs.declared.attribute_value.AttributeValue.TheVariants as values
 
 -- an element whose tag is of the primitive form is primitive
-pub primitive_at : (whole : List ℕ) (tag : ℕ) (content : List ℕ) (element : DerElement) → IsElem whole tag content element → form_bit tag ≡ 0 → element ≡ Primitive tag content
+pub primitive_at : (whole : List ℕ) (tag : ℕ) (content : List ℕ) (element : DerElement) → IsElem whole tag content element → form_bit tag ≡ 0
+    → element ≡ Primitive tag content
 primitive_at whole tag content (Primitive t c) is bit = ap (λ s. Primitive s c) (sym is.2) ∙ ap (Primitive tag) (sym is.3)
 primitive_at whole tag content (Constructed t kids) is bit = absurd (omega (arith, is.0.formed.1, ap form_bit is.2))
 
@@ -34,12 +35,14 @@ form_of_string tag (inl (inl (inr e))) = ap form_bit e
 form_of_string tag (inl (inr e)) = ap form_bit e
 form_of_string tag (inr e) = ap form_bit e
 
-pub lent_string : (whole : List ℕ) (tag : ℕ) (content : List ℕ) (element : DerElement) → IsElem whole tag content element → IsStringTag tag → (string : DirectoryString) × (element ≡ directory_string string)
+pub lent_string : (whole : List ℕ) (tag : ℕ) (content : List ℕ) (element : DerElement) → IsElem whole tag content element → IsStringTag tag
+    → (string : DirectoryString) × (element ≡ directory_string string)
 lent_string whole tag content element is string =
     let s = string_at tag content string in
     (s.0, primitive_at whole tag content element is (form_of_string tag string) ∙ s.1)
 
-pub no_string : (whole : List ℕ) (tag : ℕ) (content : List ℕ) (element : DerElement) → IsElem whole tag content element → (IsStringTag tag → ⊥) → (string : DirectoryString) → element ≡ directory_string string → ⊥
+pub no_string : (whole : List ℕ) (tag : ℕ) (content : List ℕ) (element : DerElement) → IsElem whole tag content element → (IsStringTag tag → ⊥)
+    → (string : DirectoryString) → element ≡ directory_string string → ⊥
 no_string whole tag content element is none string e = none (subst IsStringTag (sym (is.2 ∙ ap tag_of e)) (is_string_tag string))
 
 pub string_or_not : (tag : ℕ) → IsStringTag tag ⊎ (IsStringTag tag → ⊥)
@@ -72,12 +75,16 @@ ia5_or_not (octet ∷ text) =
       ]
     ]
 
-other_at : (element : DerElement) → IsDer element → ((string : DirectoryString) → element ≡ directory_string string → ⊥) → ((string : Ia5String) → element ≡ ia5_string string → ⊥) → (value : AttributeValue) × (element ≡ attribute_value value)
-other_at element der no_string no_ia5 =
-    (values.Other (record { element = record { element = element; der = der }; other = record { no_directory_string = no_string; no_ia5_string = no_ia5 } }), refl)
+other_at : (element : DerElement) → IsDer element → ((string : DirectoryString) → element ≡ directory_string string → ⊥)
+    → ((string : Ia5String) → element ≡ ia5_string string → ⊥) → (value : AttributeValue) × (element ≡ attribute_value value)
+other_at element der no_string no_ia5 = (
+  values.Other (record { element = record { element = element; der = der }; other = record { no_directory_string = no_string; no_ia5_string = no_ia5 } }),
+  refl,
+)
 
 -- any element is the value of some attribute
-pub value_at : (whole : List ℕ) (tag : ℕ) (content : List ℕ) (element : DerElement) → IsElem whole tag content element → (value : AttributeValue) × (element ≡ attribute_value value)
+pub value_at : (whole : List ℕ) (tag : ℕ) (content : List ℕ) (element : DerElement) → IsElem whole tag content element
+    → (value : AttributeValue) × (element ≡ attribute_value value)
 value_at whole tag content element is =
     elim (string_or_not tag) [
       | inl string ↦ let s = lent_string whole tag content element is string in (values.DirectoryString s.0, s.1)

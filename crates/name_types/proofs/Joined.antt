@@ -12,4 +12,5 @@ join_from_first octet text x (y ∷ xs) = ap (λ t. text x ++ (octet ∷ t)) (jo
 pub join_whole : {X : Type 0} (octet : ℕ) (text : X → List ℕ) (x : X) (xs all : List X) (n : ℕ) → all ≡ x ∷ xs → length xs ≤ n
     → text x ++ flat_map (λ y. octet ∷ text y) (take n xs) ≡ join_with_byte octet (map text all)
 join_whole octet text x xs all n parts whole =
-    ap (λ ys. text x ++ flat_map (λ y. octet ∷ text y) ys) (take_all n xs whole) ∙ sym (ap (λ ys. join_with_byte octet (map text ys)) parts ∙ join_from_first octet text x xs)
+    ap (λ ys. text x ++ flat_map (λ y. octet ∷ text y) ys) (take_all n xs whole)
+    ∙ sym (ap (λ ys. join_with_byte octet (map text ys)) parts ∙ join_from_first octet text x xs)

@@ -12,10 +12,12 @@ use Rattle.name_types.specs.declared.directory_string.DirectoryString.{Directory
 use Rattle.name_types.specs.declared.edi_party_name.EdiPartyName.{EdiPartyName}
 use Rattle.der_core.specs.Facts.Equality.{octets_same, options_same}
 
-pub one_string : (t : DerElement) (o : Option DerElement) (x : DerElement) (s : DirectoryString) → t ≡ edi_party_name_of o x → o ≡ None → x ≡ directory_string s → t ≡ edi_party_name (party_of None s)
+pub one_string : (t : DerElement) (o : Option DerElement) (x : DerElement) (s : DirectoryString) → t ≡ edi_party_name_of o x → o ≡ None → x ≡ directory_string s
+    → t ≡ edi_party_name (party_of None s)
 one_string t o x s is none party = is ∙ ap (λ (p : Option DerElement). edi_party_name_of p x) none ∙ ap (edi_party_name_of None) party
 
-pub two_strings : (t : DerElement) (o : Option DerElement) (w x : DerElement) (r s : DirectoryString) → t ≡ edi_party_name_of o x → o ≡ Some w → w ≡ directory_string r → x ≡ directory_string s
+pub two_strings : (t : DerElement) (o : Option DerElement) (w x : DerElement) (r s : DirectoryString) → t ≡ edi_party_name_of o x → o ≡ Some w
+    → w ≡ directory_string r → x ≡ directory_string s
     → t ≡ edi_party_name (party_of (Some r) s)
 two_strings t o w x r s is some assigner party =
     is
@@ -27,10 +29,12 @@ abbrev same_octets : DirectoryString → DirectoryString → Bool
 same_octets a b = bytes_eq (encoding (directory_string a)) (encoding (directory_string b))
 
 assigners_same : (a b : Option DirectoryString) → IsTrue (option_eq same_octets a b) ↔ (a ≡ b)
-assigners_same = options_same same_octets (octets_same directory_string (λ a b e. directory_strings.once (directory_string a) a b refl e) directory_strings.formed)
+assigners_same =
+    options_same same_octets (octets_same directory_string (λ a b e. directory_strings.once (directory_string a) a b refl e) directory_strings.formed)
 
 -- the assigners are the same, so the names are if the parties are
-pub by_party : (a b : EdiPartyName) (first t : Bool) → first ≡ option_eq same_octets a.name_assigner b.name_assigner → IsTrue first → (IsTrue t ↔ (a.party_name ≡ b.party_name)) → IsTrue t ↔ (a ≡ b)
+pub by_party : (a b : EdiPartyName) (first t : Bool) → first ≡ option_eq same_octets a.name_assigner b.name_assigner → IsTrue first
+    → (IsTrue t ↔ (a.party_name ≡ b.party_name)) → IsTrue t ↔ (a ≡ b)
 by_party a b first t test w party = (
   λ v. same_party a.name_assigner b.name_assigner a.party_name b.party_name ((assigners_same a.name_assigner b.name_assigner).0 (sym test ∙ w)) (party.0 v),
   λ e. party.1 (ap (λ (p : EdiPartyName). p.party_name) e),

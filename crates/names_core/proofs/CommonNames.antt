@@ -18,14 +18,16 @@ set_first set others rest parts =
     ∙ ap (λ names. slice_get names 0) (filter_map-append common_name_of set (flat_map (λ members. members) others))
     ∙ first_of_two (filter_map common_name_of set) (common_names others)
 
-some_first : {X : Type 0} (found : Option (Bor X)) (first later : Option X) → option_copied found ≡ first → is_some found ≡ true → option_copied found ≡ option_or first later
+some_first : {X : Type 0} (found : Option (Bor X)) (first later : Option X) → option_copied found ≡ first → is_some found ≡ true
+    → option_copied found ≡ option_or first later
 some_first None first later e some = absurd (false_true some)
   where
     false_true : false ≡ true → ⊥
     false_true e = let f = e in cc
 some_first (Some x) first later e some = ap (λ o. option_or o later) e
 
-none_first : {X : Type 0} (found : Option (Bor X)) (first later : Option X) → option_copied found ≡ first → is_some found ≡ false → later ≡ option_or first later
+none_first : {X : Type 0} (found : Option (Bor X)) (first later : Option X) → option_copied found ≡ first → is_some found ≡ false
+    → later ≡ option_or first later
 none_first None first later e none = ap (λ o. option_or o later) e
 none_first (Some x) first later e none = absurd (true_false none)
   where

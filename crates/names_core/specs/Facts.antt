@@ -9,5 +9,7 @@ use Rattle.name_types.specs.Facts.Names.{names}
 use Rattle.names_core.specs.Names.{name_of_sets}
 use Rattle.names_core.specs.declared.name.DirectoryName.{DirectoryName}
 
-pub directory_names : IsGrammar (λ (element : DerElement) (made : DirectoryName). element ≡ name made.name) (λ (made : DirectoryName). name made.name) (λ made. [])
-directory_names = printed (λ (made : DirectoryName). name made.name) (λ a b e. ap name_of_sets (names.once (name a.name) a.name b.name refl e)) (λ made. names.formed made.name)
+pub directory_names : IsGrammar (λ (element : DerElement) (made : DirectoryName). element ≡ name made.name) (λ (made : DirectoryName). name made.name)
+    (λ made. [])
+directory_names = printed (λ (made : DirectoryName). name made.name) (λ a b e. ap name_of_sets (names.once (name a.name) a.name b.name refl e))
+    (λ made. names.formed made.name)

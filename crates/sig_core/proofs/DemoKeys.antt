@@ -27,7 +27,8 @@ one_key secret a b =
     ap (λ (n : List ℕ). encoding (rsa_public_element n a.numbers.public_exponent)) numbers.0
     ∙ ap (λ (e : List ℕ). encoding (rsa_public_element b.numbers.modulus e)) numbers.1
 
-where_one : (secret : List ℕ) (rsa : IsRsaSecret secret) (returned : IsRsaSecret secret ⊎ (IsRsaSecret secret → ⊥)) → rsa_key returned ≡ Some (key_of rsa.numbers)
+where_one : (secret : List ℕ) (rsa : IsRsaSecret secret) (returned : IsRsaSecret secret ⊎ (IsRsaSecret secret → ⊥))
+    → rsa_key returned ≡ Some (key_of rsa.numbers)
 where_one secret rsa (inl other) = ap Some (one_key secret other rsa)
 where_one secret rsa (inr none) = absurd (none rsa)
 

@@ -6,7 +6,8 @@ use Rattle.std.specs.Str.{bytes_eq}
 use Rattle.std.proofs.Math.Seq.{take-append_seam}
 use Rattle.std.proofs.lemmas.List.{append_cancel_left}
 use Rattle.sig_core.specs.declared.algorithm.SigAlg.{SigAlg}
-use Rattle.sig_core.specs.declared.algorithm.SigAlg.TheVariants.{RsaMd5, RsaSha1, RsaSha224, RsaSha256, RsaSha384, RsaSha512, P256Sha256, P384Sha384, P521Sha512, Ed25519}
+use Rattle.sig_core.specs.declared.algorithm.SigAlg.TheVariants.{RsaMd5, RsaSha1, RsaSha224, RsaSha256, RsaSha384}
+use Rattle.sig_core.specs.declared.algorithm.SigAlg.TheVariants.{RsaSha512, P256Sha256, P384Sha384, P521Sha512, Ed25519}
 use Rattle.sig_core.specs.declared.algorithm.TheConstants.SigAlg.{ALL}
 use Rattle.sig_core.specs.Algorithm.{name_of}
 use Rattle.sig_core.specs.VerdictTable.{space}

@@ -11,7 +11,8 @@ use Rattle.sig_core.specs.declared.verdict_row.TableVersion.{TableVersion}
 use Rattle.sig_core.specs.declared.verdict_row.TableVersion.TheVariants.{One, Two}
 use Rattle.sig_core.specs.declared.verdict_row.VerdictRow.{VerdictRow}
 use Rattle.sig_core.specs.Algorithm.{name_of}
-use Rattle.sig_core.specs.VerdictTable.{IsDigest, AreDigests, IsRow, AdmitsVerdict, signature_line, line_of, lines_of, verdict_word, space, newline, BeginsWithNoSignature, BeginsWithNoLine}
+use Rattle.sig_core.specs.VerdictTable.{IsDigest, AreDigests, IsRow, AdmitsVerdict, signature_line, line_of, lines_of}
+use Rattle.sig_core.specs.VerdictTable.{verdict_word, space, newline, BeginsWithNoSignature, BeginsWithNoLine}
 use Rattle.sig_core.proofs.Names.{name_once}
 use Rattle.sig_core.proofs.Lines.{digits_same, take-digits, drop-digits}
 
@@ -20,7 +21,8 @@ abbrev pub after_name : SignatureDigests → List ℕ → List ℕ
 after_name signature after =
     encode_lower signature.key ++ space ∷ (encode_lower signature.msg ++ space ∷ (encode_lower signature.sig ++ newline ∷ after))
 
-pub signature_parts : (signature : SignatureDigests) (after : List ℕ) → signature_line signature ++ after ≡ name_of signature.alg ++ space ∷ after_name signature after
+pub signature_parts : (signature : SignatureDigests) (after : List ℕ)
+    → signature_line signature ++ after ≡ name_of signature.alg ++ space ∷ after_name signature after
 signature_parts signature after = joined (name_of signature.alg) (encode_lower signature.key) (encode_lower signature.msg) (encode_lower signature.sig) after
   where
     joined : (n k m s after : List ℕ) → n ++ space ∷ k ++ space ∷ m ++ space ∷ s ++ newline ∷ [] ++ after
@@ -93,7 +95,8 @@ pub line_once : (version : TableVersion) (a b : VerdictRow) (x y : List ℕ) →
     → line_of version a ++ x ≡ line_of version b ++ y → (a ≡ b) × (x ≡ y)
 line_once version a b x y ha hb e =
     let word = words_once version a.verdict b.verdict _ _ ha.0 hb.0
-    (sym (append_assoc (verdict_word version a.verdict) (signature_line a.signature) x) ∙ e ∙ append_assoc (verdict_word version b.verdict) (signature_line b.signature) y) in
+    (sym (append_assoc (verdict_word version a.verdict) (signature_line a.signature) x) ∙ e
+    ∙ append_assoc (verdict_word version b.verdict) (signature_line b.signature) y) in
     let line = signature_once a.signature b.signature x y ha.1 hb.1 word.1 in
     (ap (λ v. record a { verdict = v }) word.0 ∙ ap (λ s. record b { signature = s }) line.0, line.1)
 
@@ -117,7 +120,8 @@ pub lines_once : (version : TableVersion) (ps qs : List VerdictRow) (x y : List 
     → BeginsWithNoLine version x → BeginsWithNoLine version y → lines_of version ps ++ x ≡ lines_of version qs ++ y → (ps ≡ qs) × (x ≡ y)
 lines_once version [] [] x y hp hq nx ny e = (refl, e)
 lines_once version [] (q ∷ qs) x y hp hq nx ny e = absurd (nx q (lines_of version qs ++ y) hq.0 (e ∙ append_assoc (line_of version q) (lines_of version qs) y))
-lines_once version (p ∷ ps) [] x y hp hq nx ny e = absurd (ny p (lines_of version ps ++ x) hp.0 (sym e ∙ append_assoc (line_of version p) (lines_of version ps) x))
+lines_once version (p ∷ ps) [] x y hp hq nx ny e =
+    absurd (ny p (lines_of version ps ++ x) hp.0 (sym e ∙ append_assoc (line_of version p) (lines_of version ps) x))
 lines_once version (p ∷ ps) (q ∷ qs) x y hp hq nx ny e =
     let one = line_once version p q (lines_of version ps ++ x) (lines_of version qs ++ y) hp.0 hq.0
     (sym (append_assoc (line_of version p) (lines_of version ps) x) ∙ e ∙ append_assoc (line_of version q) (lines_of version qs) y) in

@@ -13,7 +13,8 @@ without_first (kid ∷ kids) = kids
 -- what an RSA private key holds
 abbrev pub kids_of_key : RsaNumbers → List DerElement
 kids_of_key numbers =
-    integer_of (0 ∷ []) ∷ integer_of numbers.modulus ∷ integer_of numbers.public_exponent ∷ integer_of numbers.private_exponent ∷ integer_of numbers.prime1 ∷ integer_of numbers.prime2 ∷ integer_of numbers.exponent1 ∷ integer_of numbers.exponent2 ∷ integer_of numbers.coefficient ∷ []
+    integer_of (0 ∷ []) ∷ integer_of numbers.modulus ∷ integer_of numbers.public_exponent ∷ integer_of numbers.private_exponent ∷ integer_of numbers.prime1
+    ∷ integer_of numbers.prime2 ∷ integer_of numbers.exponent1 ∷ integer_of numbers.exponent2 ∷ integer_of numbers.coefficient ∷ []
 
 abbrev inner : DerElement → List DerElement
 inner (Constructed tag kids) = listed kids

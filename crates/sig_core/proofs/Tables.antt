@@ -8,7 +8,8 @@ use Rattle.sig_core.specs.declared.verdict_row.TableVersion.TheVariants.{One, Tw
 use Rattle.sig_core.specs.declared.verdict_row.VerdictRow.{VerdictRow}
 use Rattle.sig_core.specs.declared.verdict_table.TableError.{TableError}
 use Rattle.sig_core.specs.declared.verdict_table.TableError.TheVariants.{BadLine, Memory}
-use Rattle.sig_core.specs.VerdictTable.{IsTable, IsFirstBadLine, IsCause, IsRow, IsOfVersion, BeginsWithLine, BeginsWithNoLine, first_line, first_number, line_of, lines_of, version_2_text}
+use Rattle.sig_core.specs.VerdictTable.{IsTable, IsFirstBadLine, IsCause, IsRow, IsOfVersion, BeginsWithLine}
+use Rattle.sig_core.specs.VerdictTable.{BeginsWithNoLine, first_line, first_number, line_of, lines_of, version_2_text}
 use Rattle.sig_core.proofs.Rows.{lines_once, nothing_begins, rows_of_two}
 
 -- a text has one version, and parses unambiguously up to where no line begins
@@ -35,7 +36,8 @@ table_once text a b ha hb =
 -- a table has no bad line
 pub no_bad_line : (text : List ℕ) (rows : List VerdictRow) (number : ℕ) → IsTable text rows → IsFirstBadLine text number → ⊥
 no_bad_line text rows number h bad =
-    bad.more (sym (once text h.version bad.version rows bad.before [] bad.rest h.of_version bad.of_version h.are_rows bad.are_rows (nothing_begins h.version) bad.bad
+    bad.more (sym (once text h.version bad.version rows bad.before [] bad.rest h.of_version bad.of_version h.are_rows bad.are_rows
+    (nothing_begins h.version) bad.bad
     (h.spelled ∙ sym (append-nil _)) bad.spelled).2)
 
 -- the first bad line is determined
@@ -49,9 +51,21 @@ pub begins_with_line : (text : List ℕ) (version : TableVersion) (rows : List V
     → AllByRecursion (IsRow version) rows → text ≡ first_line version ++ lines_of version rows ++ rest → IsRow version row → rest ≡ line_of version row ++ after
     → BeginsWithLine text
 begins_with_line text version [] rest row after are_rows spelled is_row begun =
-    record { version = version; row = row; after = after; is_row = is_row; spelled = spelled ∙ ap₂ (λ l r. l ++ r) (append-nil (first_line version)) begun ∙ sym (append_assoc (first_line version) (line_of version row) after) }
+    record {
+      version = version;
+      row = row;
+      after = after;
+      is_row = is_row;
+      spelled = spelled ∙ ap₂ (λ l r. l ++ r) (append-nil (first_line version)) begun ∙ sym (append_assoc (first_line version) (line_of version row) after);
+    }
 begins_with_line text version (first ∷ others) rest row after are_rows spelled is_row begun =
-    record { version = version; row = first; after = lines_of version others ++ rest; is_row = are_rows.0; spelled = spelled ∙ parts (first_line version) (line_of version first) (lines_of version others) rest }
+    record {
+      version = version;
+      row = first;
+      after = lines_of version others ++ rest;
+      is_row = are_rows.0;
+      spelled = spelled ∙ parts (first_line version) (line_of version first) (lines_of version others) rest;
+    }
   where
     parts : (a b c d : List ℕ) → a ++ (b ++ c) ++ d ≡ a ++ b ++ (c ++ d)
     parts a b c d = ap (λ l. l ++ d) (sym (append_assoc a b c)) ∙ append_assoc (a ++ b) c d
@@ -71,7 +85,13 @@ cause_at_bad_line text number Memory h cause = inr refl
 pub begins_where_some : (text : List ℕ) (rows : List VerdictRow) → IsTable text rows → (rows ≡ [] → ⊥) → BeginsWithLine text
 begins_where_some text [] table some = absurd (some refl)
 begins_where_some text (row ∷ others) table some =
-    record { version = table.version; row = row; after = lines_of table.version others; is_row = table.are_rows.0; spelled = table.spelled ∙ sym (append_assoc (first_line table.version) (line_of table.version row) (lines_of table.version others)) }
+    record {
+      version = table.version;
+      row = row;
+      after = lines_of table.version others;
+      is_row = table.are_rows.0;
+      spelled = table.spelled ∙ sym (append_assoc (first_line table.version) (line_of table.version row) (lines_of table.version others));
+    }
 
 -- the text written for some rows is a table of them
 pub text_is_table : (rows : List VerdictRow) → AllByRecursion (IsRow Two) rows → IsTable (version_2_text rows) rows

@@ -39,7 +39,8 @@ more rows row q =
     ∙ mapped (find (λ r. is_same_signature q r.signature) rows) (is_same_signature q row.signature)
   where
     mapped : (found : Option VerdictRow) (b : Bool)
-        → option_map (λ r. r.verdict) (option_or found (cond b (Some row) None)) ≡ option_or (option_map (λ r. r.verdict) found) (cond b (Some row.verdict) None)
+        → option_map (λ r. r.verdict) (option_or found (cond b (Some row) None)) ≡ option_or (option_map (λ r. r.verdict) found)
+        (cond b (Some row.verdict) None)
     mapped None true = refl
     mapped None false = refl
     mapped (Some r) b = refl
@@ -72,7 +73,8 @@ module _ (cmp : SignatureDigests → SignatureDigests → Ordering) (order : IsT
           → cond b (Some v) (get cmp m q) ≡ option_or (first_verdict rows q) (cond b (Some row.verdict) None)
       by true e =
           let one = (is_same_signature-Decides q row.signature).0 e in
-          ap Some (is ∙ ap (λ o. unwrap_or o row.verdict) (has row.signature ∙ ap (first_verdict rows) (sym one))) ∙ kept_verdict (first_verdict rows q) row.verdict
+          ap Some (is ∙ ap (λ o. unwrap_or o row.verdict) (has row.signature ∙ ap (first_verdict rows) (sym one)))
+          ∙ kept_verdict (first_verdict rows q) row.verdict
       by false e = has q ∙ none_more (first_verdict rows q)
 
 -- what compares as equal is the same, if a test that agrees with the comparison says so

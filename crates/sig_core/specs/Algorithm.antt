@@ -1,7 +1,8 @@
 -- Signature algorithms: the name and the kind of key of each.
 use Rattle.std.specs.Prelude.{ℕ, List, codes}
 use Rattle.sig_core.specs.declared.algorithm.SigAlg.{SigAlg}
-use Rattle.sig_core.specs.declared.algorithm.SigAlg.TheVariants.{RsaMd5, RsaSha1, RsaSha224, RsaSha256, RsaSha384, RsaSha512, P256Sha256, P384Sha384, P521Sha512, Ed25519}
+use Rattle.sig_core.specs.declared.algorithm.SigAlg.TheVariants.{RsaMd5, RsaSha1, RsaSha224, RsaSha256, RsaSha384}
+use Rattle.sig_core.specs.declared.algorithm.SigAlg.TheVariants.{RsaSha512, P256Sha256, P384Sha384, P521Sha512, Ed25519}
 use Rattle.sig_core.specs.declared.algorithm.SchemeKind as kind
 use Rattle.sig_core.specs.declared.algorithm.SchemeKind.{SchemeKind}
 

@@ -1,5 +1,6 @@
 -- Octets begin with the encoding of what is read at their start, and an encoding isn't refused.
-use Rattle.std.proofs.Common.{◌≡◌, ℕ, zero, suc, ◌+◌, ◌-◌, ◌<◌, ◌≤◌, ◌^◌, ◌∙◌, sym, ap, Bool, true, false, if◌then◌else◌, List, [], ◌∷◌, ◌++◌, length, drop, slice_range, get_or, refl, arith, length-take, length-drop, length-append, ltb-true, nat_lt, append-nil, Ok, Err, Some, None}
+use Rattle.std.proofs.Common.{◌≡◌, ℕ, zero, suc, ◌+◌, ◌-◌, ◌<◌, ◌≤◌, ◌^◌, ◌∙◌, sym, ap, Bool, true, false, if◌then◌else◌, List, [], ◌∷◌, ◌++◌, length, drop}
+use Rattle.std.proofs.Common.{slice_range, get_or, refl, arith, length-take, length-drop, length-append, ltb-true, nat_lt, append-nil, Ok, Err, Some, None}
 use Rattle.std.proofs.lemmas.Grind.{common_steps}
 use Rattle.std.proofs.lemmas.List.{take-append-drop}
 use Rattle.std.specs.Int.{w16, w32, to_le_bytes, from_le_bytes}
@@ -7,7 +8,8 @@ use Rattle.std.proofs.lemmas.Nat.{le_bytes_2, le_bytes_4, from_le_bytes-to_le_by
 use Rattle.wincert_core.specs.declared.kinds.RevisionType.{RevisionType}
 use Rattle.wincert_core.specs.declared.kinds.RevisionType.TheVariants.{WinCertificateRevision10, WinCertificateRevision20}
 use Rattle.wincert_core.specs.declared.kinds.CertificateType.{CertificateType}
-use Rattle.wincert_core.specs.declared.kinds.CertificateType.TheVariants.{WinCertTypeX509, WinCertTypePkcsSignedData, WinCertTypeReserved1, WinCertTypePkcs1Sign}
+use Rattle.wincert_core.specs.declared.kinds.CertificateType.TheVariants.{WinCertTypeX509, WinCertTypePkcsSignedData}
+use Rattle.wincert_core.specs.declared.kinds.CertificateType.TheVariants.{WinCertTypeReserved1, WinCertTypePkcs1Sign}
 use Rattle.wincert_core.specs.declared.error.WinCertificateError.{WinCertificateError}
 use Rattle.wincert_core.specs.declared.error.WinCertificateError.TheVariants.{TooLong, Memory}
 use Rattle.wincert_core.specs.Kinds.{revision_number, revision_numbered, type_number, type_numbered}
@@ -88,9 +90,11 @@ not_refused octets w front =
     let n : length_field octets ≡ stated_length w.certificate =
     ap length_field front.spelled ∙ length_field-header _ (revision_number w.revision) (type_number w.certificate_type) rest front.fits in
     let r : revision_numbered (revision_field octets) ≡ Some w.revision =
-    ap revision_numbered (ap revision_field front.spelled ∙ revision_field-header (stated_length w.certificate) w.revision (type_number w.certificate_type) rest) ∙ revision_numbered-number w.revision in
+    ap revision_numbered (ap revision_field front.spelled
+    ∙ revision_field-header (stated_length w.certificate) w.revision (type_number w.certificate_type) rest) ∙ revision_numbered-number w.revision in
     let k : type_numbered (type_field octets) ≡ Some w.certificate_type =
-    ap type_numbered (ap type_field front.spelled ∙ type_field-header (stated_length w.certificate) (revision_number w.revision) w.certificate_type rest) ∙ type_numbered-number w.certificate_type in
+    ap type_numbered (ap type_field front.spelled ∙ type_field-header (stated_length w.certificate) (revision_number w.revision) w.certificate_type rest)
+    ∙ type_numbered-number w.certificate_type in
     let long : stated_length w.certificate ≤ length octets = omega (arith, ap length front.spelled, length-append {A = ℕ} w.certificate front.later) in
     grind (arith, common_steps, n, r, k, long)
 

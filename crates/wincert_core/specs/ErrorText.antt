@@ -2,7 +2,8 @@
 use Rattle.std.specs.Prelude.{ℕ, ◌/◌, ◌%◌, false, List, [], ◌∷◌, ◌++◌, codes}
 use Rattle.std.specs.Fmt.{decimal, digit_glyph}
 use Rattle.wincert_core.specs.declared.error.WinCertificateError.{WinCertificateError}
-use Rattle.wincert_core.specs.declared.error.WinCertificateError.TheVariants.{WrongRevisionValue, WrongCertificateType, WrongLength, CertificateDataIsEmpty, Io, TooLong, Memory}
+use Rattle.wincert_core.specs.declared.error.WinCertificateError.TheVariants.{WrongRevisionValue, WrongCertificateType, WrongLength}
+use Rattle.wincert_core.specs.declared.error.WinCertificateError.TheVariants.{CertificateDataIsEmpty, Io, TooLong, Memory}
 
 -- an octet in two hexadecimal digits
 abbrev pub octet_digits : ℕ → List ℕ

@@ -5,7 +5,8 @@ use Rattle.std.specs.List.{find}
 use Rattle.wincert_core.specs.declared.kinds.RevisionType.{RevisionType}
 use Rattle.wincert_core.specs.declared.kinds.RevisionType.TheVariants.{WinCertificateRevision10, WinCertificateRevision20}
 use Rattle.wincert_core.specs.declared.kinds.CertificateType.{CertificateType}
-use Rattle.wincert_core.specs.declared.kinds.CertificateType.TheVariants.{WinCertTypeX509, WinCertTypePkcsSignedData, WinCertTypeReserved1, WinCertTypePkcs1Sign}
+use Rattle.wincert_core.specs.declared.kinds.CertificateType.TheVariants.{WinCertTypeX509, WinCertTypePkcsSignedData}
+use Rattle.wincert_core.specs.declared.kinds.CertificateType.TheVariants.{WinCertTypeReserved1, WinCertTypePkcs1Sign}
 
 -- wRevision
 abbrev pub revision_number : RevisionType → ℕ

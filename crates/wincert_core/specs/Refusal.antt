@@ -1,7 +1,9 @@
 -- Which octets contain no WIN_CERTIFICATE, and which WIN_CERTIFICATE has no encoding.
-use Rattle.std.specs.Prelude.{◌≡◌, ◌⊎◌, ℕ, ◌^◌, nat_lt, ◌==◌, if◌then◌else◌, List, length, slice_range, Option, Some, None, Result, Ok, Err, is_none, MatchResult}
+use Rattle.std.specs.Prelude.{◌≡◌, ◌⊎◌, ℕ, ◌^◌, nat_lt, ◌==◌, if◌then◌else◌, List, length}
+use Rattle.std.specs.Prelude.{slice_range, Option, Some, None, Result, Ok, Err, is_none, MatchResult}
 use Rattle.wincert_core.specs.declared.error.WinCertificateError.{WinCertificateError}
-use Rattle.wincert_core.specs.declared.error.WinCertificateError.TheVariants.{WrongRevisionValue, WrongCertificateType, WrongLength, CertificateDataIsEmpty, Io, TooLong, Memory}
+use Rattle.wincert_core.specs.declared.error.WinCertificateError.TheVariants.{WrongRevisionValue, WrongCertificateType, WrongLength}
+use Rattle.wincert_core.specs.declared.error.WinCertificateError.TheVariants.{CertificateDataIsEmpty, Io, TooLong, Memory}
 use Rattle.wincert_core.specs.declared.kinds.RevisionType.TheVariants.{WinCertificateRevision20}
 use Rattle.wincert_core.specs.declared.kinds.CertificateType.{CertificateType}
 use Rattle.wincert_core.specs.Kinds.{revision_numbered, type_numbered}

@@ -56,7 +56,8 @@ bits_of unused payload formed = record { unused = unused; payload = payload; for
 pub same_bits : (a b : BitString) → a.unused ≡ b.unused → a.payload ≡ b.payload → a ≡ b
 same_bits a b e f =
     subst (λ (n : ℕ). (xs : List ℕ) → a.payload ≡ xs → (h : IsBitString n xs) → a ≡ bits_of n xs h) e
-    (λ xs f. subst (λ (ys : List ℕ). (h : IsBitString a.unused ys) → a ≡ bits_of a.unused ys h) f (λ h. ap (bits_of a.unused a.payload) (IsBitString-prop a.unused a.payload a.formed h))) b.payload f b.formed
+    (λ xs f. subst (λ (ys : List ℕ). (h : IsBitString a.unused ys) → a ≡ bits_of a.unused ys h) f
+    (λ h. ap (bits_of a.unused a.payload) (IsBitString-prop a.unused a.payload a.formed h))) b.payload f b.formed
 
 -- ---- grammars
 

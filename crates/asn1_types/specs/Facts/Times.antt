@@ -27,7 +27,8 @@ generalized_of xs h = record {
 
 pub same_generalized : (s t : GeneralizedTime) → generalized_fields s ≡ generalized_fields t → s ≡ t
 same_generalized s t e =
-    subst (λ (xs : List ℕ). (h : AreMoment xs) → s ≡ generalized_of xs h) e (λ h. ap (generalized_of (generalized_fields s)) (AreMoment-prop (generalized_fields s) s.exists h)) t.exists
+    subst (λ (xs : List ℕ). (h : AreMoment xs) → s ≡ generalized_of xs h) e
+    (λ h. ap (generalized_of (generalized_fields s)) (AreMoment-prop (generalized_fields s) s.exists h)) t.exists
 
 abbrev utc_of : (t : GeneralizedTime) → IsUtcYear t.year → UTCTime
 utc_of t h = record { time = t; of_years = h }

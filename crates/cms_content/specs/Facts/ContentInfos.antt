@@ -30,7 +30,8 @@ use Rattle.der_core.specs.Facts.Optional.{explicit_once}
 -- ---- contents of one kind
 
 pub values_once : (a b : ContentValue) → kind_of_content a ≡ kind_of_content b → content_value a ≡ content_value b → a ≡ b
-values_once (contents.SpcIndirectDataContent x) (contents.SpcIndirectDataContent y) kind e = ap contents.SpcIndirectDataContent (indirect_data_contents.once (indirect_data_content x) x y refl e)
+values_once (contents.SpcIndirectDataContent x) (contents.SpcIndirectDataContent y) kind e =
+    ap contents.SpcIndirectDataContent (indirect_data_contents.once (indirect_data_content x) x y refl e)
 values_once (contents.CertificateTrustList x) (contents.CertificateTrustList y) kind e = ap contents.CertificateTrustList (ctls_once x y e)
 values_once (contents.Data x) (contents.Data y) kind e = ap contents.Data (octet_strings.once (octet_string x) x y refl e)
 values_once (contents.Other x) (contents.Other y) kind e = ap contents.Other (same_kept x y e)
@@ -46,11 +47,13 @@ pub values_by_octets : (a b : ContentValue) → content_octets a ≡ content_oct
 values_by_octets a b e =
     let numbers : content_number (kind_of_content a) ≡ content_number (kind_of_content b) = cc in
     let octets : encoding (content_value a) ≡ encoding (content_value b) = cc in
-    values_once a b (kinds_by_number (kind_of_content a) (kind_of_content b) numbers) (formed_encoding_once (content_value a) (content_value b) (value_formed a) (value_formed b) octets)
+    values_once a b (kinds_by_number (kind_of_content a) (kind_of_content b) numbers)
+    (formed_encoding_once (content_value a) (content_value b) (value_formed a) (value_formed b) octets)
 
 -- ---- optional contents
 
-pub options_once : (kind : ContentKind) (a b : Option ContentValue) → HasKind kind a → HasKind kind b → option_map content_value a ≡ option_map content_value b → a ≡ b
+pub options_once : (kind : ContentKind) (a b : Option ContentValue) → HasKind kind a → HasKind kind b
+    → option_map content_value a ≡ option_map content_value b → a ≡ b
 options_once kind None None p q e = refl
 options_once kind None (Some y) p q e = absurd cc
 options_once kind (Some x) None p q e = absurd cc
@@ -76,7 +79,8 @@ same_info a b ty content =
 
 infos_once : (a b : EncapsulatedContentInfo) → content_info a ≡ content_info b → a ≡ b
 infos_once a b e =
-    let parts = fields_once (object_identifier a.content_type) (object_identifier b.content_type) (option_map content_value a.content) (option_map content_value b.content) e in
+    let parts = fields_once (object_identifier a.content_type) (object_identifier b.content_type) (option_map content_value a.content)
+    (option_map content_value b.content) e in
     let ty = identifiers.once (object_identifier a.content_type) a.content_type b.content_type refl parts.0 in
     let fits = subst (λ (i : ObjectIdentifier). HasKind (named_content (identifier_contents i)) a.content) ty a.fits in
     same_info a b ty (options_once (named_content (identifier_contents b.content_type)) a.content b.content fits b.fits parts.1)
@@ -86,4 +90,5 @@ content_formed None = tt
 content_formed (Some content) = (((omega arith, omega arith, omega arith), refl, (value_formed content, tt)), tt)
 
 pub content_infos : IsGrammar (λ element info. element ≡ content_info info) content_info (λ info. [])
-content_infos = printed content_info infos_once (λ info. ((omega arith, omega arith, omega arith), refl, (identifiers.formed info.content_type, content_formed info.content)))
+content_infos = printed content_info infos_once
+    (λ info. ((omega arith, omega arith, omega arith), refl, (identifiers.formed info.content_type, content_formed info.content)))

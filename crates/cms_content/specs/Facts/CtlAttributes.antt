@@ -33,7 +33,9 @@ attributes_once : (a b : CTLEntryAttribute) → ctl_attribute a ≡ ctl_attribut
 attributes_once a b e =
     let same = same_two (object_identifier a.oid) (ctl_values a.value) (object_identifier b.oid) (ctl_values b.value) e in
     let oid = identifiers.once (object_identifier a.oid) a.oid b.oid refl same.0 in
-    same_ctl_attribute a b oid (ctl_values_once a.value b.value (a.fits ∙ ap (λ (i : ObjectIdentifier). named_ctl (identifier_contents i)) oid ∙ sym b.fits) same.1)
+    same_ctl_attribute a b oid
+    (ctl_values_once a.value b.value (a.fits ∙ ap (λ (i : ObjectIdentifier). named_ctl (identifier_contents i)) oid ∙ sym b.fits) same.1)
 
 pub ctl_attributes : IsGrammar (λ element a. element ≡ ctl_attribute a) ctl_attribute (λ a. [])
-ctl_attributes = printed ctl_attribute attributes_once (λ a. ((omega arith, omega arith, omega arith), refl, (identifiers.formed a.oid, (ctl_values_formed a.value, tt))))
+ctl_attributes =
+    printed ctl_attribute attributes_once (λ a. ((omega arith, omega arith, omega arith), refl, (identifiers.formed a.oid, (ctl_values_formed a.value, tt))))

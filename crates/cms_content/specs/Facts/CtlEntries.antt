@@ -25,4 +25,11 @@ entries_once a b e =
 pub ctl_entries : IsGrammar (λ element entry. element ≡ ctl_entry entry) ctl_entry (λ entry. [])
 ctl_entries =
     printed ctl_entry entries_once
-    (λ entry. ((omega arith, omega arith, omega arith), refl, (octet_strings.formed entry.subject_identifier, (((omega arith, omega arith, omega arith), refl, each_formed ctl_attribute ctl_attributes.formed entry.attributes), tt))))
+    (λ entry. (
+      (omega arith, omega arith, omega arith),
+      refl,
+      (
+        octet_strings.formed entry.subject_identifier,
+        (((omega arith, omega arith, omega arith), refl, each_formed ctl_attribute ctl_attributes.formed entry.attributes), tt),
+      ),
+    ))

@@ -21,10 +21,14 @@ same_string : (a b : List ℕ) → octet_string a ≡ octet_string b → a ≡ b
 same_string a b e = cc
 
 pub ctl_values_once : (a b : CTLEntryAttributeValues) → kind_of_ctl a ≡ kind_of_ctl b → ctl_values a ≡ ctl_values b → a ≡ b
-ctl_values_once (values.CertSubjectNameMd5HashPropId x) (values.CertSubjectNameMd5HashPropId y) kind e = ap values.CertSubjectNameMd5HashPropId (list_once 0x31 octet_string same_string x y e)
-ctl_values_once (values.CertDisallowedFileTimePropId x) (values.CertDisallowedFileTimePropId y) kind e = ap values.CertDisallowedFileTimePropId (list_once 0x31 octet_string same_string x y e)
-ctl_values_once (values.UnknownReservedPropId126 x) (values.UnknownReservedPropId126 y) kind e = ap values.UnknownReservedPropId126 (list_once 0x31 octet_string same_string x y e)
-ctl_values_once (values.UnknownReservedPropId127 x) (values.UnknownReservedPropId127 y) kind e = ap values.UnknownReservedPropId127 (list_once 0x31 held_purposes helds_once x y e)
+ctl_values_once (values.CertSubjectNameMd5HashPropId x) (values.CertSubjectNameMd5HashPropId y) kind e =
+    ap values.CertSubjectNameMd5HashPropId (list_once 0x31 octet_string same_string x y e)
+ctl_values_once (values.CertDisallowedFileTimePropId x) (values.CertDisallowedFileTimePropId y) kind e =
+    ap values.CertDisallowedFileTimePropId (list_once 0x31 octet_string same_string x y e)
+ctl_values_once (values.UnknownReservedPropId126 x) (values.UnknownReservedPropId126 y) kind e =
+    ap values.UnknownReservedPropId126 (list_once 0x31 octet_string same_string x y e)
+ctl_values_once (values.UnknownReservedPropId127 x) (values.UnknownReservedPropId127 y) kind e =
+    ap values.UnknownReservedPropId127 (list_once 0x31 held_purposes helds_once x y e)
 ctl_values_once (values.Other x) (values.Other y) kind e = ap values.Other (list_once 0x31 kept_element same_kept x y e)
 ctl_values_once a b kind e = absurd cc
 

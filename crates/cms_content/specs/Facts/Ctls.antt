@@ -13,7 +13,8 @@ use Rattle.der_core.specs.Facts.Grammars.{printed, same_fields, list_once}
 use Rattle.der_core.specs.Facts.Kept.{same_kept}
 use Rattle.der_core.specs.Facts.Lists.{printed_list}
 use Rattle.cms_content.specs.CtlEntry.{ctl_entry}
-use Rattle.cms_content.specs.Ctl.{Begins, MayBegin, IsNothing, FirstNot, IsIntegerElement, IsString, IsPurposeList, IsTime, IsAlgorithmElement, AreEntries, AreExtensions, FromEntries, FromAlgorithm, FromThisUpdate, FromUsage, IsCtl}
+use Rattle.cms_content.specs.Ctl.{Begins, MayBegin, IsNothing, FirstNot, IsIntegerElement, IsString, IsPurposeList, IsTime}
+use Rattle.cms_content.specs.Ctl.{IsAlgorithmElement, AreEntries, AreExtensions, FromEntries, FromAlgorithm, FromThisUpdate, FromUsage, IsCtl}
 use Rattle.cms_content.specs.CtlElement.{ctl}
 use Rattle.cms_content.specs.Facts.CtlEntries.{ctl_entries}
 use Rattle.cms_content.specs.declared.ctl.Ctl.{Ctl}
@@ -21,10 +22,12 @@ use Rattle.cms_content.specs.declared.ctl_entry.CTLEntry.{CTLEntry}
 
 -- ---- elements of one form aren't of another
 
-begins_not : (P Q : DerElement → Type 0) (behind : List DerElement → Type 0) (kids : List DerElement) → ((e : DerElement) → P e → Q e → ⊥) → Begins P behind kids → FirstNot Q kids
+begins_not : (P Q : DerElement → Type 0) (behind : List DerElement → Type 0) (kids : List DerElement) → ((e : DerElement) → P e → Q e → ⊥)
+    → Begins P behind kids → FirstNot Q kids
 begins_not P Q behind kids apart b = subst (FirstNot Q) (sym b.are) (λ q. apart b.first b.is q)
 
-may_not : (P Q : DerElement → Type 0) (behind : List DerElement → Type 0) (kids : List DerElement) → ((e : DerElement) → P e → Q e → ⊥) → (behind kids → FirstNot Q kids) → MayBegin P behind kids → FirstNot Q kids
+may_not : (P Q : DerElement → Type 0) (behind : List DerElement → Type 0) (kids : List DerElement) → ((e : DerElement) → P e → Q e → ⊥)
+    → (behind kids → FirstNot Q kids) → MayBegin P behind kids → FirstNot Q kids
 may_not P Q behind kids apart others (MayBegin.LeftOut rest) = others rest
 may_not P Q behind kids apart others (MayBegin.Given b) = begins_not P Q behind kids apart b
 
@@ -62,13 +65,16 @@ nothing_no_extensions kids none = subst (FirstNot AreExtensions) (sym none) tt
 first_such : (holds : DerElement → Type 0) (behind : List DerElement → Type 0) (kids : List DerElement) → FirstNot holds kids → Begins holds behind kids → ⊥
 first_such holds behind kids unfit b = subst (FirstNot holds) b.are unfit b.is
 
-same_rest : (P Q : DerElement → Type 0) (R S : List DerElement → Type 0) (kids : List DerElement) (b : Begins P R kids) (c : Begins Q S kids) → (b.first ≡ c.first) × (b.others ≡ c.others)
+same_rest : (P Q : DerElement → Type 0) (R S : List DerElement → Type 0) (kids : List DerElement) (b : Begins P R kids) (c : Begins Q S kids)
+    → (b.first ≡ c.first) × (b.others ≡ c.others)
 same_rest P Q R S kids b c = let same : b.first ∷ b.others ≡ c.first ∷ c.others = sym b.are ∙ c.are in (cc, cc)
 
-both_begin : {G : Type 0} (P : DerElement → Type 0) (R S : List DerElement → Type 0) (kids : List DerElement) → ((rest : List DerElement) → R rest → S rest → G) → Begins P R kids → Begins P S kids → G
+both_begin : {G : Type 0} (P : DerElement → Type 0) (R S : List DerElement → Type 0) (kids : List DerElement) → ((rest : List DerElement) → R rest → S rest → G)
+    → Begins P R kids → Begins P S kids → G
 both_begin P R S kids onward b c = onward c.others (subst R (same_rest P P R S kids b c).1 b.rest) c.rest
 
-both_may : {G : Type 0} (P : DerElement → Type 0) (R S : List DerElement → Type 0) (kids : List DerElement) → (R kids → FirstNot P kids) → (S kids → FirstNot P kids)
+both_may : {G : Type 0} (P : DerElement → Type 0) (R S : List DerElement → Type 0) (kids : List DerElement) → (R kids → FirstNot P kids)
+    → (S kids → FirstNot P kids)
     → ((rest : List DerElement) → R rest → S rest → G) → MayBegin P R kids → MayBegin P S kids → G
 both_may P R S kids r_not s_not onward (MayBegin.LeftOut r) (MayBegin.LeftOut s) = onward kids r s
 both_may P R S kids r_not s_not onward (MayBegin.LeftOut r) (MayBegin.Given c) = absurd (first_such P S kids (r_not r) c)
@@ -84,7 +90,8 @@ entries_same e xs ys p q = list_once 0x30 ctl_entry same_entry xs ys (sym (print
 from_entries : (xs ys : List CTLEntry) (kids : List DerElement) → FromEntries xs kids → FromEntries ys kids → xs ≡ ys
 from_entries xs ys kids b c =
     entries_same c.first xs ys
-    (subst (λ (e : DerElement). AreEntries e xs) (same_rest (λ element. AreEntries element xs) (λ element. AreEntries element ys) (MayBegin AreExtensions IsNothing) (MayBegin AreExtensions IsNothing) kids b c).0 b.is) c.is
+    (subst (λ (e : DerElement). AreEntries e xs) (same_rest (λ element. AreEntries element xs) (λ element. AreEntries element ys)
+    (MayBegin AreExtensions IsNothing) (MayBegin AreExtensions IsNothing) kids b c).0 b.is) c.is
 
 from_algorithm : (xs ys : List CTLEntry) (kids : List DerElement) → FromAlgorithm xs kids → FromAlgorithm ys kids → xs ≡ ys
 from_algorithm xs ys kids b c = both_begin IsAlgorithmElement (FromEntries xs) (FromEntries ys) kids (from_entries xs ys) b c
@@ -92,15 +99,20 @@ from_algorithm xs ys kids b c = both_begin IsAlgorithmElement (FromEntries xs) (
 from_this : (xs ys : List CTLEntry) (kids : List DerElement) → FromThisUpdate xs kids → FromThisUpdate ys kids → xs ≡ ys
 from_this xs ys kids b c =
     both_begin IsTime (MayBegin IsTime (FromAlgorithm xs)) (MayBegin IsTime (FromAlgorithm ys)) kids
-    (λ rest r s. both_may IsTime (FromAlgorithm xs) (FromAlgorithm ys) rest (algorithm_no_time xs rest) (algorithm_no_time ys rest) (from_algorithm xs ys) r s) b c
+    (λ rest r s. both_may IsTime (FromAlgorithm xs) (FromAlgorithm ys) rest (algorithm_no_time xs rest) (algorithm_no_time ys rest) (from_algorithm xs ys) r s)
+    b c
 
-from_number : (xs ys : List CTLEntry) (kids : List DerElement) → MayBegin IsIntegerElement (FromThisUpdate xs) kids → MayBegin IsIntegerElement (FromThisUpdate ys) kids → xs ≡ ys
-from_number xs ys kids b c = both_may IsIntegerElement (FromThisUpdate xs) (FromThisUpdate ys) kids (this_no_integer xs kids) (this_no_integer ys kids) (from_this xs ys) b c
+from_number : (xs ys : List CTLEntry) (kids : List DerElement) → MayBegin IsIntegerElement (FromThisUpdate xs) kids
+    → MayBegin IsIntegerElement (FromThisUpdate ys) kids → xs ≡ ys
+from_number xs ys kids b c =
+    both_may IsIntegerElement (FromThisUpdate xs) (FromThisUpdate ys) kids (this_no_integer xs kids) (this_no_integer ys kids) (from_this xs ys) b c
 
 from_usage : (xs ys : List CTLEntry) (kids : List DerElement) → FromUsage xs kids → FromUsage ys kids → xs ≡ ys
 from_usage xs ys kids b c =
-    both_begin IsPurposeList (MayBegin IsString (MayBegin IsIntegerElement (FromThisUpdate xs))) (MayBegin IsString (MayBegin IsIntegerElement (FromThisUpdate ys))) kids
-    (λ rest r s. both_may IsString (MayBegin IsIntegerElement (FromThisUpdate xs)) (MayBegin IsIntegerElement (FromThisUpdate ys)) rest (number_no_string xs rest) (number_no_string ys rest) (from_number xs ys) r s) b c
+    both_begin IsPurposeList (MayBegin IsString (MayBegin IsIntegerElement (FromThisUpdate xs)))
+    (MayBegin IsString (MayBegin IsIntegerElement (FromThisUpdate ys))) kids
+    (λ rest r s. both_may IsString (MayBegin IsIntegerElement (FromThisUpdate xs)) (MayBegin IsIntegerElement (FromThisUpdate ys)) rest
+    (number_no_string xs rest) (number_no_string ys rest) (from_number xs ys) r s) b c
 
 lists_same : (element : DerElement) (xs ys : List CTLEntry) → IsCtl element xs → IsCtl element ys → xs ≡ ys
 lists_same element xs ys p q =
@@ -137,7 +149,8 @@ same_ctl a b element entries =
 
 pub ctls_once : (a b : Ctl) → ctl a ≡ ctl b → a ≡ b
 ctls_once a b e =
-    same_ctl a b (same_kept a.element b.element e) (lists_once b.element.element a.entries b.entries (subst (λ (t : DerElement). ∥ IsCtl t a.entries ∥₁) e a.are) b.are)
+    same_ctl a b (same_kept a.element b.element e)
+    (lists_once b.element.element a.entries b.entries (subst (λ (t : DerElement). ∥ IsCtl t a.entries ∥₁) e a.are) b.are)
 
 pub ctls : IsGrammar (λ element value. element ≡ ctl value) ctl (λ value. [])
 ctls = printed ctl ctls_once (λ value. value.element.der.formed)

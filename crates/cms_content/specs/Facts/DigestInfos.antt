@@ -18,4 +18,5 @@ infos_once a b e =
     λ i. record { oid = oid i; digest = digest i }
 
 pub digest_infos : IsGrammar (λ element info. element ≡ digest_info info) digest_info (λ info. [])
-digest_infos = printed digest_info infos_once (λ info. ((omega arith, omega arith, omega arith), refl, (algorithms.formed info.oid, (octet_strings.formed info.digest, tt))))
+digest_infos = printed digest_info infos_once
+    (λ info. ((omega arith, omega arith, omega arith), refl, (algorithms.formed info.oid, (octet_strings.formed info.digest, tt))))

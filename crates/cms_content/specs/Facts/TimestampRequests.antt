@@ -13,10 +13,12 @@ requests_once : (a b : TimestampRequest) → timestamp_request a ≡ timestamp_r
 requests_once a b e =
     let same_ty : object_identifier a.countersignature_type ≡ object_identifier b.countersignature_type = cc in
     let same_content : content_info a.content ≡ content_info b.content = cc in
-    let ty : a.countersignature_type ≡ b.countersignature_type = identifiers.once (object_identifier a.countersignature_type) a.countersignature_type b.countersignature_type refl same_ty in
+    let ty : a.countersignature_type ≡ b.countersignature_type =
+    identifiers.once (object_identifier a.countersignature_type) a.countersignature_type b.countersignature_type refl same_ty in
     let content : a.content ≡ b.content = content_infos.once (content_info a.content) a.content b.content refl same_content in
     λ i. record { countersignature_type = ty i; content = content i }
 
 pub timestamp_requests : IsGrammar (λ element request. element ≡ timestamp_request request) timestamp_request (λ request. [])
 timestamp_requests =
-    printed timestamp_request requests_once (λ request. ((omega arith, omega arith, omega arith), refl, (identifiers.formed request.countersignature_type, (content_infos.formed request.content, tt))))
+    printed timestamp_request requests_once
+    (λ request. ((omega arith, omega arith, omega arith), refl, (identifiers.formed request.countersignature_type, (content_infos.formed request.content, tt))))

@@ -28,7 +28,8 @@ are_prop octets elements = ×_prop (AreDerWithin-prop (most_levels - 1) elements
 
 inner_once : (octets : List ℕ) → IsProp (HasElementsWithin (most_levels - 1) octets)
 inner_once octets a b =
-    let same : nested octets a ≡ nested octets b = Σ_prop_path (are_prop octets) (same_kids a.0 b.0 a.1.formed b.1.formed a.1.short b.1.short (sym a.2 ∙ b.2)) in
+    let same : nested octets a ≡ nested octets b =
+    Σ_prop_path (are_prop octets) (same_kids a.0 b.0 a.1.formed b.1.formed a.1.short b.1.short (sym a.2 ∙ b.2)) in
     ap (flat octets) same
 
 pub WereTested-prop : (level : ℕ) (octets : List ℕ) → IsProp (WereTested level octets)

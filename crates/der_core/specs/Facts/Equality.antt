@@ -53,7 +53,8 @@ pointwise_same eq one (x ∷ xs) (y ∷ ys) =
     )
 
 -- A test of two parts, made of the same whole, is one of the whole.
-pub same_whole : {X Y : Type 0} (make : X → Y) → ((a b : X) → make a ≡ make b → a ≡ b) → (s o : Y) (a b : X) (t : Bool) → s ≡ make a → o ≡ make b → (IsTrue t ↔ (a ≡ b)) → IsTrue t ↔ (s ≡ o)
+pub same_whole : {X Y : Type 0} (make : X → Y) → ((a b : X) → make a ≡ make b → a ≡ b) → (s o : Y) (a b : X) (t : Bool) → s ≡ make a → o ≡ make b
+    → (IsTrue t ↔ (a ≡ b)) → IsTrue t ↔ (s ≡ o)
 same_whole make one s o a b t p q same = (λ w. p ∙ ap make (same.0 w) ∙ sym q, λ e. same.1 (one a b (sym p ∙ e ∙ q)))
 
 -- a test that fails tests something false
@@ -67,7 +68,8 @@ options_same eq one (Some x) None = unlike (λ e. absurd cc)
 options_same eq one (Some x) (Some y) = (λ t. ap Some ((one x y).0 t), λ e. (one x y).1 cc)
 
 -- equality by octets holds exactly of the same values
-pub octets_same : {X : Type 0} (written : X → DerElement) → ((a b : X) → written a ≡ written b → a ≡ b) → ((value : X) → IsWellFormed (written value)) → (a b : X) → IsTrue (bytes_eq (encoding (written a)) (encoding (written b))) ↔ (a ≡ b)
+pub octets_same : {X : Type 0} (written : X → DerElement) → ((a b : X) → written a ≡ written b → a ≡ b) → ((value : X) → IsWellFormed (written value))
+    → (a b : X) → IsTrue (bytes_eq (encoding (written a)) (encoding (written b))) ↔ (a ≡ b)
 octets_same written one formed a b =
     let decides = bytes_eq-Decides (encoding (written a)) (encoding (written b)) in
     (λ t. one a b (formed_encoding_once (written a) (written b) (formed a) (formed b) (decides.0 t)), λ e. decides.1 (ap (λ v. encoding (written v)) e))

@@ -10,7 +10,8 @@ IsField tag [] = ⊤
 IsField tag (kid ∷ []) = tag_of kid ≡ tag
 IsField tag (kid ∷ more ∷ kids) = ⊥
 
-begins_with : (tag : ℕ) (kids : List DerElement) (kid : DerElement) (rest : List DerElement) → kids ≡ kid ∷ rest → BeginsOtherwise tag kids → tag_of kid ≡ tag → ⊥
+begins_with : (tag : ℕ) (kids : List DerElement) (kid : DerElement) (rest : List DerElement) → kids ≡ kid ∷ rest → BeginsOtherwise tag kids
+    → tag_of kid ≡ tag → ⊥
 begins_with tag kids kid rest e other is = subst (BeginsOtherwise tag) e other is
 
 -- the field of the tag that elements begin with is unambiguous

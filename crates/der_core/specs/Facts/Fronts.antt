@@ -16,7 +16,8 @@ done x = Ok x
 pub ok_is : {A : Type 0} (x y : A) → done x ≡ done y → x ≡ y
 ok_is x y e = cc
 
-long_again : (count least : ℕ) (past : DerFault) (digits rest : List ℕ) (n : ℕ) → length digits ≡ count → number_from 0 digits ≡ n → least ≤ n → long_length_at count least past (digits ++ rest) ≡ Ok (n, rest)
+long_again : (count least : ℕ) (past : DerFault) (digits rest : List ℕ) (n : ℕ) → length digits ≡ count → number_from 0 digits ≡ n → least ≤ n
+    → long_length_at count least past (digits ++ rest) ≡ Ok (n, rest)
 unfolding long_length_at
 long_again count least past digits rest n len is-n enough =
     let there : ltb (length (digits ++ rest)) count ≡ false = le-ltb _ _ (omega (arith, length-append digits rest)) in
@@ -41,7 +42,8 @@ any_length_again past n rest =
                         | inl lt ↦ let t : ltb n (2 ^ 24) ≡ true = lt-ltb _ _ lt in
                             rw (f7, f8, f16, t) (long_again 3 (2 ^ 16) past (n / 2 ^ 16 ∷ n / 2 ^ 8 % 2 ^ 8 ∷ n % 2 ^ 8 ∷ []) rest n refl (omega arith) ge16)
                         | inr ge24 ↦ let f24 : ltb n (2 ^ 24) ≡ false = le-ltb _ _ ge24 in
-                            rw (f7, f8, f16, f24) (long_again 4 (2 ^ 24) past (n / 2 ^ 24 ∷ n / 2 ^ 16 % 2 ^ 8 ∷ n / 2 ^ 8 % 2 ^ 8 ∷ n % 2 ^ 8 ∷ []) rest n refl (omega arith) ge24)
+                            rw (f7, f8, f16, f24)
+                            (long_again 4 (2 ^ 24) past (n / 2 ^ 24 ∷ n / 2 ^ 16 % 2 ^ 8 ∷ n / 2 ^ 8 % 2 ^ 8 ∷ n % 2 ^ 8 ∷ []) rest n refl (omega arith) ge24)
                       ]
                 ]
           ]
@@ -74,7 +76,8 @@ same_lengths m n x y e =
 
 framed_fronts : (s t : ℕ) (a b x y : List ℕ) → framed s a ++ x ≡ framed t b ++ y → (s ≡ t) × (a ≡ b) × (x ≡ y)
 framed_fronts s t a b x y e =
-    let after : length_octets (length a) ++ (a ++ x) ≡ length_octets (length b) ++ (b ++ y) = sym (append_assoc (length_octets (length a)) a x) ∙ ap tail e ∙ append_assoc (length_octets (length b)) b y in
+    let after : length_octets (length a) ++ (a ++ x) ≡ length_octets (length b) ++ (b ++ y) = sym (append_assoc (length_octets (length a)) a x) ∙ ap tail e
+    ∙ append_assoc (length_octets (length b)) b y in
     let lengths = same_lengths (length a) (length b) (a ++ x) (b ++ y) after in
     let contents = same_fronts a b x y lengths.0 lengths.1 in
     (ap front_or_zero e, contents.0, contents.1)

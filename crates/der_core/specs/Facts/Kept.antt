@@ -25,7 +25,8 @@ abbrev kept_of : (element : DerElement) → IsDer element → KeptElement
 kept_of element der = record { element = element; der = der }
 
 pub same_kept : (a b : KeptElement) → a.element ≡ b.element → a ≡ b
-same_kept a b e = subst (λ (x : DerElement). (h : IsDer x) → a ≡ kept_of x h) e (λ h. ap (kept_of a.element) (IsDerWithin-prop most_levels a.element a.der h)) b.der
+same_kept a b e =
+    subst (λ (x : DerElement). (h : IsDer x) → a ≡ kept_of x h) e (λ h. ap (kept_of a.element) (IsDerWithin-prop most_levels a.element a.der h)) b.der
 
 -- owned octets are of one element
 pub one_kept : (octets : List ℕ) (a b : DerElement) → IsKept octets a → IsKept octets b → a ≡ b

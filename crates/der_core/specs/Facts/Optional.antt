@@ -23,39 +23,45 @@ option_once spells once (Some e) None b p q = absurd p
 option_once spells once (Some e) (Some x) None p q = absurd q
 option_once spells once (Some e) (Some x) (Some y) p q = ap Some (once e x y p q)
 
-pub option_bounded : {X : Type 0} (spells : DerElement → X → Type 0) (inner : X → List DerElement) → ((element : DerElement) (value : X) → spells element value → AreDer (inner value))
+pub option_bounded : {X : Type 0} (spells : DerElement → X → Type 0) (inner : X → List DerElement)
+    → ((element : DerElement) (value : X) → spells element value → AreDer (inner value))
     → (element : Option DerElement) (a : Option X) → SpellsOption spells element a → AreDer (inner_option inner a)
 option_bounded spells inner bounded element None p = tt
 option_bounded spells inner bounded None (Some x) p = absurd p
 option_bounded spells inner bounded (Some e) (Some x) p = bounded e x p
 
-pub option_spelled : {X : Type 0} (spells : DerElement → X → Type 0) (written : X → DerElement) (inner : X → List DerElement) → ((value : X) → AreDer (inner value) → spells (written value) value)
+pub option_spelled : {X : Type 0} (spells : DerElement → X → Type 0) (written : X → DerElement) (inner : X → List DerElement)
+    → ((value : X) → AreDer (inner value) → spells (written value) value)
     → (a : Option X) → AreDer (inner_option inner a) → SpellsOption spells (option_map written a) a
 option_spelled spells written inner spelled None der = tt
 option_spelled spells written inner spelled (Some x) der = spelled x der
 
 -- values with one encoding are determined by what is written
-pub options_once : {X : Type 0} (written : X → DerElement) → ((a b : X) → written a ≡ written b → a ≡ b) → (a b : Option X) → option_map written a ≡ option_map written b → a ≡ b
+pub options_once : {X : Type 0} (written : X → DerElement) → ((a b : X) → written a ≡ written b → a ≡ b) → (a b : Option X)
+    → option_map written a ≡ option_map written b → a ≡ b
 options_once written one None None e = refl
 options_once written one None (Some y) e = absurd cc
 options_once written one (Some x) None e = absurd cc
 options_once written one (Some x) (Some y) e = let same : written x ≡ written y = cc in ap Some (one x y same)
 
 -- such a value is encoded by what is written for it
-pub printed_option : {X : Type 0} (written : X → DerElement) (e : Option DerElement) (v : Option X) → SpellsOption (Prints written) e v → e ≡ option_map written v
+pub printed_option : {X : Type 0} (written : X → DerElement) (e : Option DerElement) (v : Option X) → SpellsOption (Prints written) e v
+    → e ≡ option_map written v
 printed_option written None None s = refl
 printed_option written None (Some v) s = absurd s
 printed_option written (Some e) None s = absurd s
 printed_option written (Some e) (Some v) s = ap Some s
 
-pub option_printed : {X : Type 0} (written : X → DerElement) (e : Option DerElement) (v : Option X) → e ≡ option_map written v → SpellsOption (Prints written) e v
+pub option_printed : {X : Type 0} (written : X → DerElement) (e : Option DerElement) (v : Option X) → e ≡ option_map written v
+    → SpellsOption (Prints written) e v
 option_printed written None None e = tt
 option_printed written None (Some v) e = absurd cc
 option_printed written (Some x) None e = absurd cc
 option_printed written (Some x) (Some v) e = cc
 
 -- a value that is present
-pub some_spells : {X : Type 0} (spells : DerElement → X → Type 0) (e : Option DerElement) (element : DerElement) (value : X) → e ≡ Some element → spells element value → SpellsOption spells e (Some value)
+pub some_spells : {X : Type 0} (spells : DerElement → X → Type 0) (e : Option DerElement) (element : DerElement) (value : X) → e ≡ Some element
+    → spells element value → SpellsOption spells e (Some value)
 some_spells spells e element value is s = subst (λ (o : Option DerElement). SpellsOption spells o (Some value)) (sym is) s
 
 -- ---- elements
@@ -65,7 +71,8 @@ abbrev pub IsFormedOption : Option DerElement → Type 0
 IsFormedOption None = ⊤
 IsFormedOption (Some element) = IsWellFormed element
 
-pub option_formed : {X : Type 0} (written : X → DerElement) → ((value : X) → IsWellFormed (written value)) → (a : Option X) → IsFormedOption (option_map written a)
+pub option_formed : {X : Type 0} (written : X → DerElement) → ((value : X) → IsWellFormed (written value)) → (a : Option X)
+    → IsFormedOption (option_map written a)
 option_formed written formed None = tt
 option_formed written formed (Some x) = formed x
 
@@ -95,10 +102,12 @@ explicit_none tag (Some kid) e = absurd cc
 pub explicit_split : (tag : ℕ) (a b : Option DerElement) (xs ys : List DerElement) → (a ≡ None → BeginsOtherwise tag xs) → (b ≡ None → BeginsOtherwise tag ys)
     → optional_explicit tag a ++ xs ≡ optional_explicit tag b ++ ys → (a ≡ b) × (xs ≡ ys)
 explicit_split tag a b xs ys f g e =
-    let parts = split tag (optional_explicit tag a) (optional_explicit tag b) xs ys (explicit_field tag a) (explicit_field tag b) (λ none. f (explicit_none tag a none)) (λ none. g (explicit_none tag b none)) e in
+    let parts = split tag (optional_explicit tag a) (optional_explicit tag b) xs ys (explicit_field tag a) (explicit_field tag b)
+    (λ none. f (explicit_none tag a none)) (λ none. g (explicit_none tag b none)) e in
     (explicit_once tag a b parts.0, parts.1)
 
-pub explicit_formed : (tag : ℕ) (kid : Option DerElement) (rest : List DerElement) → IsTag tag → form_bit tag ≡ 1 → IsFormedOption kid → AreWellFormed (row rest) → AreWellFormed (row (optional_explicit tag kid ++ rest))
+pub explicit_formed : (tag : ℕ) (kid : Option DerElement) (rest : List DerElement) → IsTag tag → form_bit tag ≡ 1 → IsFormedOption kid
+    → AreWellFormed (row rest) → AreWellFormed (row (optional_explicit tag kid ++ rest))
 explicit_formed tag None rest is_tag form inside formed = formed
 explicit_formed tag (Some kid) rest is_tag form inside formed = ((is_tag, form, (inside, tt)), formed)
 
@@ -127,9 +136,11 @@ leaf_none tag (Some content) e = absurd cc
 pub leaf_split : (tag : ℕ) (a b : Option (List ℕ)) (xs ys : List DerElement) → (a ≡ None → BeginsOtherwise tag xs) → (b ≡ None → BeginsOtherwise tag ys)
     → optional_leaf tag a ++ xs ≡ optional_leaf tag b ++ ys → (a ≡ b) × (xs ≡ ys)
 leaf_split tag a b xs ys f g e =
-    let parts = split tag (optional_leaf tag a) (optional_leaf tag b) xs ys (leaf_field tag a) (leaf_field tag b) (λ none. f (leaf_none tag a none)) (λ none. g (leaf_none tag b none)) e in
+    let parts = split tag (optional_leaf tag a) (optional_leaf tag b) xs ys (leaf_field tag a) (leaf_field tag b) (λ none. f (leaf_none tag a none))
+    (λ none. g (leaf_none tag b none)) e in
     (leaf_once tag a b parts.0, parts.1)
 
-pub leaf_formed : (tag : ℕ) (content : Option (List ℕ)) (rest : List DerElement) → IsTag tag → form_bit tag ≡ 0 → AreWellFormed (row rest) → AreWellFormed (row (optional_leaf tag content ++ rest))
+pub leaf_formed : (tag : ℕ) (content : Option (List ℕ)) (rest : List DerElement) → IsTag tag → form_bit tag ≡ 0 → AreWellFormed (row rest)
+    → AreWellFormed (row (optional_leaf tag content ++ rest))
 leaf_formed tag None rest is_tag form formed = formed
 leaf_formed tag (Some content) rest is_tag form formed = ((is_tag, form), formed)

@@ -19,7 +19,8 @@ IsElem-prop whole tag content element = hlevel (IsDerWithin-prop most_levels ele
 
 pub HasElem-prop : (whole : List ℕ) (tag : ℕ) (content : List ℕ) → IsProp (HasElem whole tag content)
 HasElem-prop whole tag content a b =
-    Σ_prop_path (IsElem-prop whole tag content) (fronts a.0 b.0 [] [] a.1.0.formed b.1.0.formed a.1.0.short b.1.0.short (ap (λ o. o ++ []) (sym a.1.1 ∙ b.1.1))).0
+    Σ_prop_path (IsElem-prop whole tag content)
+    (fronts a.0 b.0 [] [] a.1.0.formed b.1.0.formed a.1.0.short b.1.0.short (ap (λ o. o ++ []) (sym a.1.1 ∙ b.1.1))).0
 
 pub all_formed : (kids : List DerElement) → AreDer kids → AreWellFormed (row kids)
 all_formed [] der = tt

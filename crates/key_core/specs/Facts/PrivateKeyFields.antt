@@ -20,7 +20,8 @@ other_tag (Some content) = λ e. omega (arith, e)
 pub fields_once : (v w a b : DerElement) (k l : List ℕ) (p q : Option DerElement) (m n : Option (List ℕ)) → HaveTag p → HaveTag q
     → private_key_info_of v a k p m ≡ private_key_info_of w b l q n → (v ≡ w) × (a ≡ b) × (k ≡ l) × (p ≡ q) × (m ≡ n)
 fields_once v w a b k l p q m n f g e =
-    let kids = same_fields (v ∷ a ∷ octet_string k ∷ (option_to_list p ++ optional_leaf 0x81 m)) (w ∷ b ∷ octet_string l ∷ (option_to_list q ++ optional_leaf 0x81 n)) e in
+    let kids = same_fields (v ∷ a ∷ octet_string k ∷ (option_to_list p ++ optional_leaf 0x81 m))
+    (w ∷ b ∷ octet_string l ∷ (option_to_list q ++ optional_leaf 0x81 n)) e in
     let version : v ≡ w = cc in
     let algorithm : a ≡ b = cc in
     let key : k ≡ l = cc in

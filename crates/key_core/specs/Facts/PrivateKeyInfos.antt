@@ -69,13 +69,20 @@ pub same_info : (a b : PrivateKeyInfo) → a.version ≡ b.version
     → a.private_key_algorithm ≡ b.private_key_algorithm → a.private_key ≡ b.private_key
     → a.attributes ≡ b.attributes → a.public_key ≡ b.public_key → a ≡ b
 same_info a b v algorithm key attributes public_key =
-    let alike : (h : Agree a.private_key_algorithm a.private_key a.attributes) → a ≡ info_of b.version a.private_key_algorithm a.private_key a.attributes b.public_key h =
-    λ h i. info_of (v i) a.private_key_algorithm a.private_key a.attributes (public_key i) (Agree-prop a.private_key_algorithm a.private_key a.attributes a.agree h i) in
-    let with_attributes : (h : Agree a.private_key_algorithm a.private_key b.attributes) → a ≡ info_of b.version a.private_key_algorithm a.private_key b.attributes b.public_key h =
-    subst (λ (t : Option KeptElement). (h : Agree a.private_key_algorithm a.private_key t) → a ≡ info_of b.version a.private_key_algorithm a.private_key t b.public_key h) attributes alike in
-    let with_key : (h : Agree a.private_key_algorithm b.private_key b.attributes) → a ≡ info_of b.version a.private_key_algorithm b.private_key b.attributes b.public_key h =
-    subst (λ (k : PrivateKeyValue). (h : Agree a.private_key_algorithm k b.attributes) → a ≡ info_of b.version a.private_key_algorithm k b.attributes b.public_key h) key with_attributes in
-    subst (λ (x : AlgorithmIdentifier). (h : Agree x b.private_key b.attributes) → a ≡ info_of b.version x b.private_key b.attributes b.public_key h) algorithm with_key b.agree
+    let alike : (h : Agree a.private_key_algorithm a.private_key a.attributes)
+    → a ≡ info_of b.version a.private_key_algorithm a.private_key a.attributes b.public_key h =
+    λ h i. info_of (v i) a.private_key_algorithm a.private_key a.attributes (public_key i)
+    (Agree-prop a.private_key_algorithm a.private_key a.attributes a.agree h i) in
+    let with_attributes : (h : Agree a.private_key_algorithm a.private_key b.attributes)
+    → a ≡ info_of b.version a.private_key_algorithm a.private_key b.attributes b.public_key h =
+    subst (λ (t : Option KeptElement). (h : Agree a.private_key_algorithm a.private_key t)
+    → a ≡ info_of b.version a.private_key_algorithm a.private_key t b.public_key h) attributes alike in
+    let with_key : (h : Agree a.private_key_algorithm b.private_key b.attributes)
+    → a ≡ info_of b.version a.private_key_algorithm b.private_key b.attributes b.public_key h =
+    subst (λ (k : PrivateKeyValue). (h : Agree a.private_key_algorithm k b.attributes)
+    → a ≡ info_of b.version a.private_key_algorithm k b.attributes b.public_key h) key with_attributes in
+    subst (λ (x : AlgorithmIdentifier). (h : Agree x b.private_key b.attributes) → a ≡ info_of b.version x b.private_key b.attributes b.public_key h)
+    algorithm with_key b.agree
 
 pub infos_once : (a b : PrivateKeyInfo) → private_key_info a ≡ private_key_info b → a ≡ b
 infos_once a b e =
@@ -86,7 +93,8 @@ infos_once a b e =
     (kept_option b.attributes) (option_map bit_string_contents a.public_key)
     (option_map bit_string_contents b.public_key) a.agree.tagged b.agree.tagged e in
     let algorithm = algorithms.once (algorithm_identifier a.private_key_algorithm) a.private_key_algorithm b.private_key_algorithm refl parts.1 in
-    let named : Names b.private_key_algorithm (private_kind a.private_key) = subst (λ (x : AlgorithmIdentifier). Names x (private_kind a.private_key)) algorithm a.agree.named in
+    let named : Names b.private_key_algorithm (private_kind a.private_key) =
+    subst (λ (x : AlgorithmIdentifier). Names x (private_kind a.private_key)) algorithm a.agree.named in
     let kind = one_kind (private_kind a.private_key) (private_kind b.private_key) (identifier_contents b.private_key_algorithm.oid) named b.agree.named in
     same_info a b (versions_once a.version b.version parts.0) algorithm
     (keys_by_encoding a.private_key b.private_key kind parts.2)

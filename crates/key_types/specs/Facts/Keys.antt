@@ -29,7 +29,8 @@ bits_once a b e = bit_strings.once (bit_string a) a b refl e
 pub keys_once : (x y : SubjectKey) → kind_of_key x ≡ kind_of_key y → subject_public_key x ≡ subject_public_key y → x ≡ y
 keys_once (keys.Rsa x) (keys.Rsa y) kind e =
     let octets : encoding (rsa_public_key x) ≡ encoding (rsa_public_key y) = cc in
-    ap keys.Rsa (rsa_public_keys.once (rsa_public_key x) x y refl (formed_encoding_once (rsa_public_key x) (rsa_public_key y) (rsa_public_keys.formed x) (rsa_public_keys.formed y) octets))
+    ap keys.Rsa (rsa_public_keys.once (rsa_public_key x) x y refl
+    (formed_encoding_once (rsa_public_key x) (rsa_public_key y) (rsa_public_keys.formed x) (rsa_public_keys.formed y) octets))
 keys_once (keys.Ec x) (keys.Ec y) kind e = ap keys.Ec (bits_once x y e)
 keys_once (keys.Ed x) (keys.Ed y) kind e = ap keys.Ed (bits_once x y e)
 keys_once (keys.Mldsa x) (keys.Mldsa y) kind e = ap keys.Mldsa (bits_once x y e)
@@ -49,7 +50,8 @@ same_info a b algorithm key =
     let with_key : (h : IsAlgorithmOf (kind_of_key b.subject_public_key) a.algorithm) → a ≡ info_of a.algorithm b.subject_public_key h =
     subst (λ (k : SubjectKey). (h : IsAlgorithmOf (kind_of_key k) a.algorithm) → a ≡ info_of a.algorithm k h) key
     (λ h. ap (info_of a.algorithm a.subject_public_key) (IsAlgorithmOf-prop (kind_of_key a.subject_public_key) a.algorithm a.fits h)) in
-    subst (λ (x : AlgorithmIdentifier). (h : IsAlgorithmOf (kind_of_key b.subject_public_key) x) → a ≡ info_of x b.subject_public_key h) algorithm with_key b.fits
+    subst (λ (x : AlgorithmIdentifier). (h : IsAlgorithmOf (kind_of_key b.subject_public_key) x) → a ≡ info_of x b.subject_public_key h)
+    algorithm with_key b.fits
 
 pub infos_once : (a b : SubjectPublicKeyInfo) → public_key_info a ≡ public_key_info b → a ≡ b
 infos_once a b same =

@@ -48,10 +48,19 @@ named_ec : (P : List ℕ → Type 0) → P EC_PUBLIC_KEY.now → (oid : List ℕ
 named_ec P a0 oid named = at_same P oid EC_PUBLIC_KEY.now named a0
 
 named_ed : (P : List ℕ → Type 0) → P X25519.now → P X448.now → P ED25519.now → P ED448.now → (oid : List ℕ) → IsTrue (names_kind kinds.Ed oid) → P oid
-named_ed P a0 a1 a2 a3 oid named = elim (or_cases _ _ named) [ inl l3 ↦ elim (or_cases _ _ l3) [ inl l2 ↦ elim (or_cases _ _ l2) [ inl l1 ↦ at_same P oid X25519.now l1 a0 | inr r1 ↦ at_same P oid X448.now r1 a1 ] | inr r2 ↦ at_same P oid ED25519.now r2 a2 ] | inr r3 ↦ at_same P oid ED448.now r3 a3 ]
+named_ed P a0 a1 a2 a3 oid named = elim (or_cases _ _ named) [
+  | inl l3 ↦ elim (or_cases _ _ l3) [
+    | inl l2 ↦ elim (or_cases _ _ l2) [ inl l1 ↦ at_same P oid X25519.now l1 a0 | inr r1 ↦ at_same P oid X448.now r1 a1 ]
+    | inr r2 ↦ at_same P oid ED25519.now r2 a2
+  ]
+  | inr r3 ↦ at_same P oid ED448.now r3 a3
+]
 
 named_mldsa : (P : List ℕ → Type 0) → P ML_DSA_44.now → P ML_DSA_65.now → P ML_DSA_87.now → (oid : List ℕ) → IsTrue (names_kind kinds.Mldsa oid) → P oid
-named_mldsa P a0 a1 a2 oid named = elim (or_cases _ _ named) [ inl l2 ↦ elim (or_cases _ _ l2) [ inl l1 ↦ at_same P oid ML_DSA_44.now l1 a0 | inr r1 ↦ at_same P oid ML_DSA_65.now r1 a1 ] | inr r2 ↦ at_same P oid ML_DSA_87.now r2 a2 ]
+named_mldsa P a0 a1 a2 oid named = elim (or_cases _ _ named) [
+  | inl l2 ↦ elim (or_cases _ _ l2) [ inl l1 ↦ at_same P oid ML_DSA_44.now l1 a0 | inr r1 ↦ at_same P oid ML_DSA_65.now r1 a1 ]
+  | inr r2 ↦ at_same P oid ML_DSA_87.now r2 a2
+]
 
 -- the kind that an OID identifies, if there is one
 abbrev kind_of : List ℕ → KeyKind

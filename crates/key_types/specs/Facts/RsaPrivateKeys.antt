@@ -33,4 +33,20 @@ once a b same =
     }
 
 pub rsa_private_keys : IsGrammar (λ element key. element ≡ rsa_private_key key) rsa_private_key (λ key. [])
-rsa_private_keys = printed rsa_private_key once (λ key. ((omega arith, omega arith, omega arith), refl, (((omega arith, omega arith, omega arith), refl), (integers.formed key.n, (integers.formed key.e, (integers.formed key.d, (integers.formed key.p, (integers.formed key.q, (integers.formed key.dp, (integers.formed key.dq, (integers.formed key.qinv, tt)))))))))))
+rsa_private_keys = printed rsa_private_key once (λ key. (
+  (omega arith, omega arith, omega arith),
+  refl,
+  (
+    ((omega arith, omega arith, omega arith), refl),
+    (
+      integers.formed key.n,
+      (
+        integers.formed key.e,
+        (
+          integers.formed key.d,
+          (integers.formed key.p, (integers.formed key.q, (integers.formed key.dp, (integers.formed key.dq, (integers.formed key.qinv, tt))))),
+        ),
+      ),
+    ),
+  ),
+))

@@ -16,7 +16,8 @@ use Rattle.asn1_types.specs.declared.ia5_string.Ia5String.{Ia5String}
 use Rattle.name_types.specs.DirectoryString.{directory_string}
 use Rattle.name_types.specs.Name.{name}
 use Rattle.der_core.specs.Elements.{explicit}
-use Rattle.name_types.specs.GeneralName.{other_name_of, other_name, edi_party_name_of, string_option, edi_party_name, general_name, general_names, AreGeneralNames}
+use Rattle.name_types.specs.GeneralName.{other_name_of, other_name, edi_party_name_of, string_option}
+use Rattle.name_types.specs.GeneralName.{edi_party_name, general_name, general_names, AreGeneralNames}
 use Rattle.name_types.specs.Facts.Names.{directory_strings, names}
 use Rattle.name_types.specs.declared.directory_string.DirectoryString.{DirectoryString}
 use Rattle.name_types.specs.declared.other_name.OtherName.{OtherName}
@@ -46,11 +47,15 @@ other_parts t t' v v' e = (cc, cc)
 pub other_names_once : (a b : OtherName) → other_name a ≡ other_name b → a ≡ b
 other_names_once a b e =
     let parts = other_parts (object_identifier a.type_id) (object_identifier b.type_id) a.value.element b.value.element e in
-    same_other_name a.type_id b.type_id a.value b.value (identifiers.once (object_identifier a.type_id) a.type_id b.type_id refl parts.0) (same_kept a.value b.value parts.1)
+    same_other_name a.type_id b.type_id a.value b.value (identifiers.once (object_identifier a.type_id) a.type_id b.type_id refl parts.0)
+    (same_kept a.value b.value parts.1)
 
 other_names_formed : (a : OtherName) → IsWellFormed (other_name a)
-other_names_formed a =
-    ((omega arith, omega arith, omega arith), refl, (identifiers.formed a.type_id, (((omega arith, omega arith, omega arith), refl, (a.value.der.formed, tt)), tt)))
+other_names_formed a = (
+  (omega arith, omega arith, omega arith),
+  refl,
+  (identifiers.formed a.type_id, (((omega arith, omega arith, omega arith), refl, (a.value.der.formed, tt)), tt)),
+)
 
 pub other_names : IsGrammar (λ element value. element ≡ other_name value) other_name (λ value. [])
 other_names = printed other_name other_names_once other_names_formed
@@ -138,7 +143,8 @@ of_form (forms.DirectoryName x) (forms.DirectoryName y) t e = ap forms.Directory
 of_form (forms.EdiPartyName x) (forms.EdiPartyName y) t e = ap forms.EdiPartyName (edi_party_names_once x y e)
 of_form (forms.Uri x) (forms.Uri y) t e = ap forms.Uri (texts_once 0x86 x y e)
 of_form (forms.IpAddress x) (forms.IpAddress y) t e = ap forms.IpAddress (leaf_once 0x87 x y e)
-of_form (forms.RegisteredId x) (forms.RegisteredId y) t e = ap forms.RegisteredId (same_oid x y (leaf_once 0x88 (identifier_contents x) (identifier_contents y) e))
+of_form (forms.RegisteredId x) (forms.RegisteredId y) t e =
+    ap forms.RegisteredId (same_oid x y (leaf_once 0x88 (identifier_contents x) (identifier_contents y) e))
 of_form a b t e = absurd (omega (arith, t))
 
 pub forms_once : (a b : RawGeneralName) → general_name a ≡ general_name b → a ≡ b
@@ -167,4 +173,7 @@ general_name_lists = printed_lists 0x30 general_name (omega arith, omega arith, 
 
 -- lists have codes: those of their elements
 abbrev pub coded_general_names : Coded (List RawGeneralName)
-coded_general_names = record { code = λ names. stored (general_names names); inj = λ a b e. general_names_once a b (stored_inj (general_names a) (general_names b) e) }
+coded_general_names = record {
+  code = λ names. stored (general_names names);
+  inj = λ a b e. general_names_once a b (stored_inj (general_names a) (general_names b) e);
+}

@@ -80,7 +80,8 @@ other_of element other = record { element = element; other = other }
 
 pub same_other : (a b : OtherValue) → a.element.element ≡ b.element.element → a ≡ b
 same_other a b e =
-    subst (λ (x : KeptElement). (h : IsOtherValue x.element) → a ≡ other_of x h) (same_kept a.element b.element e) (λ h. ap (other_of a.element) (IsOtherValue-prop a.element.element a.other h)) b.other
+    subst (λ (x : KeptElement). (h : IsOtherValue x.element) → a ≡ other_of x h) (same_kept a.element b.element e)
+    (λ h. ap (other_of a.element) (IsOtherValue-prop a.element.element a.other h)) b.other
 
 values_once : (a b : AttributeValue) → attribute_value a ≡ attribute_value b → a ≡ b
 values_once (values.DirectoryString x) (values.DirectoryString y) e = ap values.DirectoryString (strings_once x y e)
@@ -111,7 +112,8 @@ attributes_once a b e =
     ∙ ap (λ (v : AttributeValue). record { ty = b.ty; value = v }) (values_once a.value b.value elements)
 
 pub attributes : IsGrammar (λ element attribute. element ≡ attribute_type_and_value attribute) attribute_type_and_value (λ attribute. [])
-attributes = printed attribute_type_and_value attributes_once (λ a. ((omega arith, omega arith, omega arith), refl, (identifiers.formed a.ty, (values_formed a.value, tt))))
+attributes = printed attribute_type_and_value attributes_once
+    (λ a. ((omega arith, omega arith, omega arith), refl, (identifiers.formed a.ty, (values_formed a.value, tt))))
 
 -- ---- sets and names
 
@@ -127,7 +129,10 @@ names = printed_lists 0x30 relative_distinguished_name (omega arith, omega arith
 -- ---- sets and names have codes: those of their elements
 
 abbrev pub coded_set : Coded (List AttributeTypeAndValue)
-coded_set = record { code = λ members. stored (relative_distinguished_name members); inj = λ a b e. sets_once a b (stored_inj (relative_distinguished_name a) (relative_distinguished_name b) e) }
+coded_set = record {
+  code = λ members. stored (relative_distinguished_name members);
+  inj = λ a b e. sets_once a b (stored_inj (relative_distinguished_name a) (relative_distinguished_name b) e);
+}
 
 abbrev pub coded_name : Coded (List (List AttributeTypeAndValue))
 coded_name = record { code = λ sets. stored (name sets); inj = λ a b e. names.once (name a) a b refl (stored_inj (name a) (name b) e) }

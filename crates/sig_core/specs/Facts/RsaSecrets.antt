@@ -32,8 +32,14 @@ parts_of (tag ∷ octets) = parts_by (length_at Truncated octets)
 
 parts_again : (tag : ℕ) (contents rest : List ℕ) → length contents < 2 ^ 32 → parts_of (framed tag contents ++ rest) ≡ (contents, rest)
 parts_again tag contents rest short =
-    let regrouped : (length_octets (length contents) ++ contents) ++ rest ≡ length_octets (length contents) ++ (contents ++ rest) = append_assoc (length_octets (length contents)) contents rest in
-    rw (regrouped, length_again Truncated (length contents) (contents ++ rest) short, take_at contents rest (length contents) refl, drop_at contents rest (length contents) refl) refl
+    let regrouped : (length_octets (length contents) ++ contents) ++ rest ≡ length_octets (length contents) ++ (contents ++ rest) =
+    append_assoc (length_octets (length contents)) contents rest in
+    rw (
+      regrouped,
+      length_again Truncated (length contents) (contents ++ rest) short,
+      take_at contents rest (length contents) refl,
+      drop_at contents rest (length contents) refl,
+    ) refl
 
 -- they are determined by the octets
 parts_determined : (s t : ℕ) (left right : List ℕ) → left ≡ right → (a : Begins s left) (b : Begins t right) → (a.contents ≡ b.contents) × (a.rest ≡ b.rest)
@@ -117,7 +123,8 @@ numbers_of contents i = record {
   coefficient = i.2.2.2.2.2.2.2.2.0.contents;
 }
 
-contents_written : (contents : List ℕ) (i : Integers 9 contents) → i.0.contents ≡ 0 ∷ [] → contents ≡ contents_octets (rsa_private_element (numbers_of contents i))
+contents_written : (contents : List ℕ) (i : Integers 9 contents) → i.0.contents ≡ 0 ∷ []
+    → contents ≡ contents_octets (rsa_private_element (numbers_of contents i))
 contents_written contents i version =
     as_written 9 contents i ∙ ap (λ (v : List ℕ). framed 2 v ++ written 8 i.0.rest i.2) version
 
@@ -136,9 +143,49 @@ made secret b none i version =
         coefficient = i.2.2.2.2.2.2.2.2.1;
       };
       der = record {
-        formed = ((omega arith, omega arith, omega arith), refl, (((omega arith, omega arith, omega arith), refl), (((omega arith, omega arith, omega arith), refl), (((omega arith, omega arith, omega arith), refl), (((omega arith, omega arith, omega arith), refl), (((omega arith, omega arith, omega arith), refl), (((omega arith, omega arith, omega arith), refl), (((omega arith, omega arith, omega arith), refl), (((omega arith, omega arith, omega arith), refl), (((omega arith, omega arith, omega arith), refl), tt))))))))));
+        formed = (
+          (omega arith, omega arith, omega arith),
+          refl,
+          (
+            ((omega arith, omega arith, omega arith), refl),
+            (
+              ((omega arith, omega arith, omega arith), refl),
+              (
+                ((omega arith, omega arith, omega arith), refl),
+                (
+                  ((omega arith, omega arith, omega arith), refl),
+                  (
+                    ((omega arith, omega arith, omega arith), refl),
+                    (
+                      ((omega arith, omega arith, omega arith), refl),
+                      (
+                        ((omega arith, omega arith, omega arith), refl),
+                        (((omega arith, omega arith, omega arith), refl), (((omega arith, omega arith, omega arith), refl), tt)),
+                      ),
+                    ),
+                  ),
+                ),
+              ),
+            ),
+          ),
+        );
         nested = omega arith;
-        short = (subst (λ (o : List ℕ). length o < 2 ^ 32) same b.short, (omega arith, (i.2.0.short, (i.2.2.0.short, (i.2.2.2.0.short, (i.2.2.2.2.0.short, (i.2.2.2.2.2.0.short, (i.2.2.2.2.2.2.0.short, (i.2.2.2.2.2.2.2.0.short, (i.2.2.2.2.2.2.2.2.0.short, tt))))))))));
+        short = (
+          subst (λ (o : List ℕ). length o < 2 ^ 32) same b.short,
+          (
+            omega arith,
+            (
+              i.2.0.short,
+              (
+                i.2.2.0.short,
+                (
+                  i.2.2.2.0.short,
+                  (i.2.2.2.2.0.short, (i.2.2.2.2.2.0.short, (i.2.2.2.2.2.2.0.short, (i.2.2.2.2.2.2.2.0.short, (i.2.2.2.2.2.2.2.2.0.short, tt))))),
+                ),
+              ),
+            ),
+          ),
+        );
       };
       encoded = b.parts ∙ ap (λ (o : List ℕ). framed 0x30 b.contents ++ o) none ∙ append-nil (framed 0x30 b.contents) ∙ ap (framed 0x30) same;
     }
@@ -170,12 +217,44 @@ held secret s =
     let after_private_exponent = framed 2 n.prime1 ++ after_prime1 in
     let after_public_exponent = framed 2 n.private_exponent ++ after_private_exponent in
     let after_modulus = framed 2 n.public_exponent ++ after_public_exponent in
-    let after_version = framed 2 n.modulus ++ after_modulus in
-    (begun_integer (0 ∷ []) after_version s.der.short.1.0, zero_is, (begun_integer n.modulus after_modulus s.der.short.1.1.0, s.integers.modulus, (begun_integer n.public_exponent after_public_exponent s.der.short.1.1.1.0, s.integers.public_exponent, (begun_integer n.private_exponent after_private_exponent s.der.short.1.1.1.1.0, s.integers.private_exponent, (begun_integer n.prime1 after_prime1 s.der.short.1.1.1.1.1.0, s.integers.prime1, (begun_integer n.prime2 after_prime2 s.der.short.1.1.1.1.1.1.0, s.integers.prime2, (begun_integer n.exponent1 after_exponent1 s.der.short.1.1.1.1.1.1.1.0, s.integers.exponent1, (begun_integer n.exponent2 after_exponent2 s.der.short.1.1.1.1.1.1.1.1.0, s.integers.exponent2, (begun_integer n.coefficient after_coefficient s.der.short.1.1.1.1.1.1.1.1.1.0, s.integers.coefficient, refl)))))))))
+    let after_version = framed 2 n.modulus ++ after_modulus in (
+      begun_integer (0 ∷ []) after_version s.der.short.1.0,
+      zero_is,
+      (
+        begun_integer n.modulus after_modulus s.der.short.1.1.0,
+        s.integers.modulus,
+        (
+          begun_integer n.public_exponent after_public_exponent s.der.short.1.1.1.0,
+          s.integers.public_exponent,
+          (
+            begun_integer n.private_exponent after_private_exponent s.der.short.1.1.1.1.0,
+            s.integers.private_exponent,
+            (
+              begun_integer n.prime1 after_prime1 s.der.short.1.1.1.1.1.0,
+              s.integers.prime1,
+              (
+                begun_integer n.prime2 after_prime2 s.der.short.1.1.1.1.1.1.0,
+                s.integers.prime2,
+                (
+                  begun_integer n.exponent1 after_exponent1 s.der.short.1.1.1.1.1.1.1.0,
+                  s.integers.exponent1,
+                  (
+                    begun_integer n.exponent2 after_exponent2 s.der.short.1.1.1.1.1.1.1.1.0,
+                    s.integers.exponent2,
+                    (begun_integer n.coefficient after_coefficient s.der.short.1.1.1.1.1.1.1.1.1.0, s.integers.coefficient, refl),
+                  ),
+                ),
+              ),
+            ),
+          ),
+        ),
+      ),
+    )
 
 -- ---- whether there is one
 
-with_version : (secret : List ℕ) (b : Begins 0x30 secret) → b.rest ≡ [] → (i : Integers 9 b.contents) (test : Bool) → bytes_eq i.0.contents (0 ∷ []) ≡ test → IsRsaSecret secret ⊎ (IsRsaSecret secret → ⊥)
+with_version : (secret : List ℕ) (b : Begins 0x30 secret) → b.rest ≡ [] → (i : Integers 9 b.contents) (test : Bool) → bytes_eq i.0.contents (0 ∷ []) ≡ test
+    → IsRsaSecret secret ⊎ (IsRsaSecret secret → ⊥)
 with_version secret b none i true e = inl (made secret b none i ((bytes_eq-Decides i.0.contents (0 ∷ [])).0 e))
 with_version secret b none i false e =
     inr (λ s.
@@ -184,7 +263,8 @@ with_version secret b none i false e =
     let both : true ≡ false = sym ((bytes_eq-Decides i.0.contents (0 ∷ [])).1 version) ∙ e in
     cc)
 
-with_rest : (secret : List ℕ) (b : Begins 0x30 secret) (rest : List ℕ) → b.rest ≡ rest → Integers 9 b.contents ⊎ (Integers 9 b.contents → ⊥) → IsRsaSecret secret ⊎ (IsRsaSecret secret → ⊥)
+with_rest : (secret : List ℕ) (b : Begins 0x30 secret) (rest : List ℕ) → b.rest ≡ rest → Integers 9 b.contents ⊎ (Integers 9 b.contents → ⊥)
+    → IsRsaSecret secret ⊎ (IsRsaSecret secret → ⊥)
 with_rest secret b [] none (inl i) = with_version secret b none i (bytes_eq i.0.contents (0 ∷ [])) refl
 with_rest secret b [] none (inr other) =
     inr (λ s. other (subst (Integers 9) (sym (same_parts 0x30 secret b (begun secret s)).0) (held secret s)))

@@ -4,7 +4,8 @@ use Rattle.std.proofs.lemmas.Int.{ints}
 use Rattle.cms_content.specs.FileTime.{seconds_of}
 use Rattle.cms_content.specs.Listing.{IsForOthers}
 use Rattle.cms_content.proofs.ListingSteps.{beginning_missing, begins_without, begun, short_beginning, too_early}
-use Rattle.cms_content.proofs.listing.expect_begun.Goals.{else-not_before-now-via-then-not_before-now+else-not-is_for_others, else-not_before-now-via-else-not_before-now}
+use Rattle.cms_content.proofs.listing.expect_begun.Goals.{else-not_before-now-via-then-not_before-now+else-not-is_for_others}
+use Rattle.cms_content.proofs.listing.expect_begun.Goals.{else-not_before-now-via-else-not_before-now}
 use Rattle.cms_content.proofs.listing.expect_begun.Goals as goal
 
 pub returns-in_default : goal.returns-in_default
@@ -24,7 +25,8 @@ returns-then-not-is_for_others c =
     let early : c.args.now <ℤ c.in-Some-seconds_of.not_before = omega (arith, ints) in
     let start : to_z w64 (of_z w64 c.in-Some-seconds_of.not_before) ≡ c.in-Some-seconds_of.not_before = omega (arith, ints) in
     let now : to_z w64 (of_z w64 c.args.now) ≡ c.args.now = omega (arith, ints) in
-    rw (start, now) (too_early c.args.entry.now c.args.now c.in-Some.times.now c.in-Some-first.first.now c.in-Some.ensures c.in-Some-first.ensures.value c.in-Some-seconds_of.not_before time.0 time.1 early (iff_false c.is_for_others.ensures c.if-not-is_for_others.true))
+    rw (start, now) (too_early c.args.entry.now c.args.now c.in-Some.times.now c.in-Some-first.first.now c.in-Some.ensures c.in-Some-first.ensures.value
+    c.in-Some-seconds_of.not_before time.0 time.1 early (iff_false c.is_for_others.ensures c.if-not-is_for_others.true))
 
 pub returns : goal.returns
 returns c =
@@ -33,4 +35,5 @@ returns c =
       | else-not_before-now-via-then-not_before-now+else-not-is_for_others w ↦ inr (w.is_for_others.ensures.0 w.if-not-is_for_others.false)
       | else-not_before-now-via-else-not_before-now w ↦ inl (omega (arith, ints))
     ] in
-    begun c.args.entry.now c.args.now c.in-Some.times.now c.in-Some-first.first.now c.in-Some.ensures c.in-Some-first.ensures.value c.in-Some-seconds_of.not_before time.0 time.1 begun_or_said
+    begun c.args.entry.now c.args.now c.in-Some.times.now c.in-Some-first.first.now c.in-Some.ensures c.in-Some-first.ensures.value
+    c.in-Some-seconds_of.not_before time.0 time.1 begun_or_said

@@ -22,10 +22,12 @@ returns-then-not_after-now c =
     let less : c.in-Some-seconds_of.not_after <ℤ c.args.now = omega (arith, ints) in
     let end : to_z w64 (of_z w64 c.in-Some-seconds_of.not_after) ≡ c.in-Some-seconds_of.not_after = omega (arith, ints) in
     let now : to_z w64 (of_z w64 c.args.now) ≡ c.args.now = omega (arith, ints) in
-    rw (end, now) (ended c.args.entry.now c.args.now c.in-Some.times.now c.in-Some-first.first.now c.in-Some.ensures c.in-Some-first.ensures.value c.in-Some-seconds_of.not_after time.0 time.1 less)
+    rw (end, now) (ended c.args.entry.now c.args.now c.in-Some.times.now c.in-Some-first.first.now c.in-Some.ensures c.in-Some-first.ensures.value
+    c.in-Some-seconds_of.not_after time.0 time.1 less)
 
 pub returns : goal.returns
 returns c =
     let time = subst (λ (v : List ℕ). (8 ≤ length v) × (c.in-Some-seconds_of.not_after ≡ seconds_of v)) c.as_slice.ensures c.in-Some-seconds_of.ensures in
     let later : c.args.now ≤ℤ c.in-Some-seconds_of.not_after = omega (arith, ints) in
-    lasts c.args.entry.now c.args.now c.in-Some.times.now c.in-Some-first.first.now c.in-Some.ensures c.in-Some-first.ensures.value c.in-Some-seconds_of.not_after time.0 time.1 later
+    lasts c.args.entry.now c.args.now c.in-Some.times.now c.in-Some-first.first.now c.in-Some.ensures c.in-Some-first.ensures.value
+    c.in-Some-seconds_of.not_after time.0 time.1 later

@@ -10,7 +10,8 @@ use Rattle.cms_content.proofs.listing.expect_listed.Goals as goal
 
 pub returns-in_default : goal.returns-in_default
 returns-in_default c =
-    not_listed c.args.entries.now c.args.name.now c.args.now (subst (λ (digest : List ℕ). HoldsOfNone (HasDigest digest) c.args.entries.now) c.digest-digest.ensures c.in_default.ensures)
+    not_listed c.args.entries.now c.args.name.now c.args.now
+    (subst (λ (digest : List ℕ). HoldsOfNone (HasDigest digest) c.args.entries.now) c.digest-digest.ensures c.in_default.ensures)
 
 pub returns-in_err-expect_lasting : goal.returns-in_err-expect_lasting
 returns-in_err-expect_lasting c =
@@ -25,5 +26,6 @@ returns c =
     let now : to_z w64 (of_z w64 c.args.now) ≡ c.args.now = omega (arith, ints) in
     let first = subst (λ (digest : List ℕ). IsFirst (HasDigest digest) c.args.entries.now c.in-Some.entry.now) c.digest-digest.ensures c.in-Some.ensures in
     let lasts = subst (λ (n : ℤ). EndsWell c.in-Some.entry.now n) now c.in_ok-expect_lasting.ensures in
-    let begins = subst (λ (n : ℤ). MatchResult c.expect_begun.result (λ _. BeginsWell c.in-Some.entry.now n) (IsFirstBroken (beginning_rules c.in-Some.entry.now n))) now c.expect_begun.ensures in
+    let begins = subst (λ (n : ℤ). MatchResult c.expect_begun.result (λ _. BeginsWell c.in-Some.entry.now n)
+    (IsFirstBroken (beginning_rules c.in-Some.entry.now n))) now c.expect_begun.ensures in
     begins_or_not c.args.entries.now c.args.name.now c.args.now c.in-Some.entry.now c.expect_begun.result first lasts begins

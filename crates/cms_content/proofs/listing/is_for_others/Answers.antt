@@ -13,5 +13,6 @@ returns-in-None c = usage_missing c.args.entry.now c.in-Some.usages.now c.in-Som
 
 pub returns-in-Some-first : goal.returns-in-Some-first
 returns-in-Some-first c =
-    let test = subst (λ (purposes : List ObjectIdentifier). IsTrue c.is_for_code_signing.result ↔ HoldsOfSome IsCodeSigning purposes) c.purposes.ensures c.is_for_code_signing.ensures in
+    let test = subst (λ (purposes : List ObjectIdentifier). IsTrue c.is_for_code_signing.result ↔ HoldsOfSome IsCodeSigning purposes)
+    c.purposes.ensures c.is_for_code_signing.ensures in
     said_of c.args.entry.now c.in-Some.usages.now c.in-Some-first.first.now c.is_for_code_signing.result c.in-Some.ensures c.in-Some-first.ensures.value test

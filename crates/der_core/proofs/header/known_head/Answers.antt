@@ -17,5 +17,6 @@ pub returns : goal.returns
 returns c =
     let tag = c.in-Some.tag.now in
     let known = known_head_is c.args.octets.now tag c.in-Some.after.now _ _ (search rules) c.requires c.known_length-length.ensures in
-    let read : head_at 64 c.args.octets.now ≡ Ok (tag, c.split_at.result.0.now, c.split_at.result.1.now) = rw (c.split_at.ensures.front, c.split_at.ensures.back) known.read in
+    let read : head_at 64 c.args.octets.now ≡ Ok (tag, c.split_at.result.0.now, c.split_at.result.1.now) =
+    rw (c.split_at.ensures.front, c.split_at.ensures.back) known.read in
     (read, head_taken 64 c.args.octets.now tag _ _ (λ i. omega (arith, c.type_inv.octets i)) read)

@@ -22,14 +22,16 @@ pub overflow_mul-number : goal.overflow_mul-number
 overflow_mul-number c = omega (arith, few_digits c.loop-digit.digit-index c.loop-digit.number c.loop-digit.invariant.small (omega arith))
 
 pub overflow_add-number : goal.overflow_add-number
-overflow_add-number c = omega (arith, few_digits c.loop-digit.digit-index c.loop-digit.number c.loop-digit.invariant.small (omega arith), c.type_inv.digits c.loop-digit.digit-index)
+overflow_add-number c = omega
+    (arith, few_digits c.loop-digit.digit-index c.loop-digit.number c.loop-digit.invariant.small (omega arith), c.type_inv.digits c.loop-digit.digit-index)
 
 pub loop-digit-preserved : goal.loop-digit-preserved
 loop-digit-preserved c =
     let i = c.loop-digit.digit-index in
     let n = c.loop-digit.number in
     let digits = c.args.digits.now in
-    let split : number_from n (drop i digits) ≡ number_from (n * 256 + get_or digits i 0) (drop (i + 1) digits) = at_drop_more (number_from n) digits i 0 c.loop-digit-test.true in
+    let split : number_from n (drop i digits) ≡ number_from (n * 256 + get_or digits i 0) (drop (i + 1) digits) =
+    at_drop_more (number_from n) digits i 0 c.loop-digit-test.true in
     record {
       small = one_more i n c.from.result c.loop-digit.invariant.small (omega (arith, c.type_inv.digits i));
       goes_on = rw c.from.ensures (sym split ∙ c.loop-digit.invariant.goes_on);

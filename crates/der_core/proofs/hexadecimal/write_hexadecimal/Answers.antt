@@ -15,6 +15,7 @@ loop-octet-preserved g c =
     let octet = slice_index c.args.octets.now c.loop-octet.octet-index in
     let so_far = c.loop-octet.invariant plain in
     let written = subst (λ o. DisplaysOnOk g.W.Write.write_str_gives c.loop-octet.f c.write.result o c.write.new.self)
-    (octet_written c.in_radix.result c.laid_out.result octet c.laid_out.ensures c.in_radix.ensures (omega (arith, c.type_inv.octets c.loop-octet.octet-index))) c.write.ensures.writes in
+    (octet_written c.in_radix.result c.laid_out.result octet c.laid_out.ensures c.in_radix.ensures (omega (arith, c.type_inv.octets c.loop-octet.octet-index)))
+    c.write.ensures.writes in
     has_written_of_eq _ _ _ _ _ (one_more_octet c.args.octets.now c.loop-octet.octet-index c.loop-octet-test.true)
     (has_written_append _ _ _ _ _ _ so_far (written so_far.plain (search rules)))

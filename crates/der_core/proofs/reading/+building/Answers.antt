@@ -9,7 +9,8 @@ tree_of-trees_of-requires t c =
 
 pub tree_of-returns-in_ok-trees_of-in-Some : goal.tree_of-returns-in_ok-trees_of-in-Some
 tree_of-returns-in_ok-trees_of-in-Some t c =
-    c.branch-branch.ensures ∙ ap (λ kids. Constructed c.args.elem.tag (row kids)) c.in_ok-trees_of-in-Some.ensures ∙ sym (with_kids _ _ _ c.args.elem.is.1.2 c.in-Some.ensures)
+    c.branch-branch.ensures ∙ ap (λ kids. Constructed c.args.elem.tag (row kids)) c.in_ok-trees_of-in-Some.ensures
+    ∙ sym (with_kids _ _ _ c.args.elem.is.1.2 c.in-Some.ensures)
 
 pub trees_of-tree_of-requires : goal.trees_of-tree_of-requires
 trees_of-tree_of-requires t c =
@@ -21,5 +22,6 @@ trees_of-loop-kid-preserved t c =
     let grown = c.in_ok-push.ensures.ok in
     record {
       fewer = omega (arith, kid_first _ _ _ c.in-Some.ensures, c.loop-kid.invariant.fewer);
-      parts = c.loop-kid.invariant.parts ∙ ap (λ rest. c.loop-kid.trees ++ rest) (c.in-Some.ensures ∙ ap (λ k. k ∷ c.next.new.self.are.0) (sym kid)) ∙ sym (append_assoc c.loop-kid.trees (_ ∷ []) c.next.new.self.are.0) ∙ ap (λ trees. trees ++ c.next.new.self.are.0) (sym grown);
+      parts = c.loop-kid.invariant.parts ∙ ap (λ rest. c.loop-kid.trees ++ rest) (c.in-Some.ensures ∙ ap (λ k. k ∷ c.next.new.self.are.0) (sym kid))
+          ∙ sym (append_assoc c.loop-kid.trees (_ ∷ []) c.next.new.self.are.0) ∙ ap (λ trees. trees ++ c.next.new.self.are.0) (sym grown);
     }

@@ -10,7 +10,8 @@ returns-in_err-elem-clause-faulty c = λ at fault there.
     rw (p.1, p.2) (ap Err (ap errors.Malformed (refused_exactly c.args.bytes.now at fault c.in_err-elem.field-0.0 there c.in_err-elem.ensures)))
 
 pub returns-in_err-tree_of-clause-faulty : goal.returns-in_err-tree_of-clause-faulty
-returns-in_err-tree_of-clause-faulty c = λ at fault there. absurd (no_fault_where_whole c.args.bytes.now _ at fault c.in_ok-elem.elem.is.1.0 c.in_ok-elem.ensures there)
+returns-in_err-tree_of-clause-faulty c =
+    λ at fault there. absurd (no_fault_where_whole c.args.bytes.now _ at fault c.in_ok-elem.elem.is.1.0 c.in_ok-elem.ensures there)
 
 pub returns-clause-faulty : goal.returns-clause-faulty
 returns-clause-faulty c = λ at fault there. absurd (no_fault_where_whole c.args.bytes.now _ at fault c.in_ok-elem.elem.is.1.0 c.in_ok-elem.ensures there)

@@ -54,7 +54,8 @@ test_elements-returns-in_err-after t c =
     let some : 0 < length c.loop-rest.rest.now = omega arith in
     let before : ℕ = length c.args.octets.now - length c.loop-rest.rest.now in
     let shorter = c.loop-rest.invariant.shorter in
-    rw (p.1, p.2) (fault_in c.args.at (c.args.at + before) (ElementFault c.args.levels c.loop-rest.rest.now) (KidsFault c.args.levels c.args.octets.now) c.in_err-after.field-0.0
+    rw (p.1, p.2) (fault_in c.args.at (c.args.at + before) (ElementFault c.args.levels c.loop-rest.rest.now) (KidsFault c.args.levels c.args.octets.now)
+    c.in_err-after.field-0.0
     (λ k fault there. (before + k, omega arith, c.loop-rest.invariant.goes_on k (before + k) fault (omega arith) (First some there))) c.in_err-after.ensures)
 
 pub test_elements-loop-rest-smaller : goal.test_elements-loop-rest-smaller
@@ -65,7 +66,8 @@ test_elements-loop-rest-smaller t c =
 pub test_elements-loop-rest-preserved : goal.test_elements-loop-rest-preserved
 test_elements-loop-rest-preserved t c =
     let e = c.in_ok-after.ensures in
-    let lengths : length c.loop-rest.rest.now ≡ length (encoding e.0) + length c.in_ok-after.after.now = ap length e.2 ∙ length-append (encoding e.0) c.in_ok-after.after.now in
+    let lengths : length c.loop-rest.rest.now ≡ length (encoding e.0) + length c.in_ok-after.after.now = ap length e.2
+    ∙ length-append (encoding e.0) c.in_ok-after.after.now in
     record {
       shorter = omega (arith, c.loop-rest.invariant.shorter);
       elements = λ has. c.loop-rest.invariant.elements (one_more_first c.args.levels c.loop-rest.rest.now c.in_ok-after.after.now e.0 e.1 e.2 has);

@@ -15,5 +15,6 @@ put_elements-put_element-requires t c =
 pub put_elements-returns-in_err-put_element : goal.put_elements-returns-in_err-put_element
 put_elements-returns-in_err-put_element t c =
     let p = err_from_is_err_and c.from_residual.result c.from_residual.ensures.1 in
-    let kid = λ (w : AreShort (row c.args.kids.now)). subst IsShort (sym c.index-kids-i.is) (IsShort-kid c.args.kids.now (c.loop-i.i - 1) c.index-kids-i.result (omega arith) w) in
+    let kid = λ (w : AreShort (row c.args.kids.now)). subst IsShort (sym c.index-kids-i.is)
+    (IsShort-kid c.args.kids.now (c.loop-i.i - 1) c.index-kids-i.result (omega arith) w) in
     rw (p.1, p.2) (RefusesLong-whole kid _ c.in_err-put_element.ensures)

@@ -1,5 +1,6 @@
 use Rattle.name_types.specs.declared.name_attr.NameAttr.{NameAttr}
-use Rattle.name_types.specs.declared.name_attr.NameAttr.TheVariants.{CommonName, Surname, SerialNumber, CountryName, LocalityName, StateOrProvinceName, StreetName, OrganizationName, OrganizationalUnitName, GivenName}
+use Rattle.name_types.specs.declared.name_attr.NameAttr.TheVariants.{CommonName, Surname, SerialNumber, CountryName, LocalityName, StateOrProvinceName}
+use Rattle.name_types.specs.declared.name_attr.NameAttr.TheVariants.{StreetName, OrganizationName, OrganizationalUnitName, GivenName}
 use Rattle.name_types.specs.declared.name_attr.TheConstants.NameAttr.{ALL}
 use Rattle.name_types.proofs.name_attr.list_has_each_attribute_type.Goals as goal
 use Rattle.std.proofs.Common.{refl, lit<}

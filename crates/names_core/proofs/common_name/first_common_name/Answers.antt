@@ -7,10 +7,12 @@ use Rattle.names_core.proofs.common_name.first_common_name.Goals as goal
 
 pub returns-then-is_some : goal.returns-then-is_some
 returns-then-is_some c =
-    found_here _ _ _ c.first_in-found.result c.in-Some.ensures.cases.0 (c.first_in-found.ensures ∙ ap (λ set. slice_get (filter_map common_name_of set) 0) c.as_slice.ensures) (sym c.is_some.ensures ∙ c.if-is_some.true)
+    found_here _ _ _ c.first_in-found.result c.in-Some.ensures.cases.0
+    (c.first_in-found.ensures ∙ ap (λ set. slice_get (filter_map common_name_of set) 0) c.as_slice.ensures) (sym c.is_some.ensures ∙ c.if-is_some.true)
     ∙ c.loop-set.invariant
 
 pub loop-set-preserved : goal.loop-set-preserved
 loop-set-preserved c =
-    found_later _ _ _ c.first_in-found.result c.in-Some.ensures.cases.0 (c.first_in-found.ensures ∙ ap (λ set. slice_get (filter_map common_name_of set) 0) c.as_slice.ensures) (sym c.is_some.ensures ∙ c.if-is_some.false)
+    found_later _ _ _ c.first_in-found.result c.in-Some.ensures.cases.0
+    (c.first_in-found.ensures ∙ ap (λ set. slice_get (filter_map common_name_of set) 0) c.as_slice.ensures) (sym c.is_some.ensures ∙ c.if-is_some.false)
     ∙ c.loop-set.invariant

@@ -22,5 +22,6 @@ loop-row-preserved c =
     let is = c.or_insert.ensures.value ∙ ap (λ o. unwrap_or o row.verdict) c.in_ok-verdicts.ensures.value in
     let after =
     subst (λ rows. HasFirstVerdicts block.ghosts.cmp rows now) (sym (take_more c.args.rows.now c.loop-row.row-index no_row within))
-    (kept block.ghosts.cmp total-law (one_of_equals _ _ (λ a b. search rules) matches_eq-law) c.loop-row.verdicts now _ row verdict c.loop-row.invariant is (c.in_ok-verdicts.ensures.update.0 verdict).0) in
+    (kept block.ghosts.cmp total-law (one_of_equals _ _ (λ a b. search rules) matches_eq-law) c.loop-row.verdicts now _ row verdict c.loop-row.invariant is
+    (c.in_ok-verdicts.ensures.update.0 verdict).0) in
     λ q. grind (arith, after q)

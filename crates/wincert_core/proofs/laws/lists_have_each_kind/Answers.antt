@@ -3,7 +3,8 @@ use Rattle.std.specs.Prelude.{Contains}
 use Rattle.wincert_core.specs.declared.kinds.RevisionType.{RevisionType}
 use Rattle.wincert_core.specs.declared.kinds.RevisionType.TheVariants.{WinCertificateRevision10, WinCertificateRevision20}
 use Rattle.wincert_core.specs.declared.kinds.CertificateType.{CertificateType}
-use Rattle.wincert_core.specs.declared.kinds.CertificateType.TheVariants.{WinCertTypeX509, WinCertTypePkcsSignedData, WinCertTypeReserved1, WinCertTypePkcs1Sign}
+use Rattle.wincert_core.specs.declared.kinds.CertificateType.TheVariants.{WinCertTypeX509, WinCertTypePkcsSignedData}
+use Rattle.wincert_core.specs.declared.kinds.CertificateType.TheVariants.{WinCertTypeReserved1, WinCertTypePkcs1Sign}
 use Rattle.wincert_core.specs.declared.kinds.TheConstants.CertificateType as types
 use Rattle.wincert_core.specs.declared.kinds.TheConstants.RevisionType as revisions
 use Rattle.wincert_core.proofs.laws.lists_have_each_kind.Goals as goal

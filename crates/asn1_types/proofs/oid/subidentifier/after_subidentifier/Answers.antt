@@ -9,4 +9,5 @@ pub returns-in-len2-up : goal.returns-in-len2-up
 returns-in-len2-up c = of_two c.args.octets.now c.in-len2-up.len_at_least (omega arith) (omega (arith, c.type_inv.octets 0)) (omega arith)
 
 pub returns-in-len3-up : goal.returns-in-len3-up
-returns-in-len3-up c = of_three c.args.octets.now c.in-len3-up.len_at_least (omega arith) (omega (arith, c.type_inv.octets 0)) (omega arith) (omega (arith, c.type_inv.octets 1)) (omega arith)
+returns-in-len3-up c = of_three c.args.octets.now c.in-len3-up.len_at_least (omega arith) (omega (arith, c.type_inv.octets 0)) (omega arith)
+    (omega (arith, c.type_inv.octets 1)) (omega arith)

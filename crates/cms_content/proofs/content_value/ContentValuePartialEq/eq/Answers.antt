@@ -11,4 +11,5 @@ by_octets : (a b : ContentValue) (t : Bool) → (IsTrue t ↔ (a ≡ b)) → t �
 by_octets = decided_by_octets
 
 pub returns-in-Data-Data-clause-compared : goal.returns-in-Data-Data-clause-compared
-returns-in-Data-Data-clause-compared c = by_octets _ _ _ (same_whole contents.Data (λ a b e. cc) _ _ _ _ _ c.in-Data-Data.is-0 c.in-Data-Data.is-1 c.eq-in-Data-Data.ensures.same)
+returns-in-Data-Data-clause-compared c =
+    by_octets _ _ _ (same_whole contents.Data (λ a b e. cc) _ _ _ _ _ c.in-Data-Data.is-0 c.in-Data-Data.is-1 c.eq-in-Data-Data.ensures.same)

@@ -4,7 +4,8 @@ use Rattle.cms_content.proofs.Contents.{by_fields, lies}
 use Rattle.cms_content.proofs.content_view.ContentView.read.Goals as goal
 
 pub returns-in_err-content_type : goal.returns-in_err-content_type
-returns-in_err-content_type c = rw c.from_residual-in_err-content_type.ensures (λ info is. c.in_err-content_type.ensures _ (by_fields _ _ _ info c.in_ok-fields.ensures is).0)
+returns-in_err-content_type c =
+    rw c.from_residual-in_err-content_type.ensures (λ info is. c.in_err-content_type.ensures _ (by_fields _ _ _ info c.in_ok-fields.ensures is).0)
 
 pub invariant_of-result : goal.invariant_of-result
 invariant_of-result c =

@@ -9,5 +9,6 @@ returns-in-Some-at-clause-fits c = λ w.
     let id = c.in-Some-at.ensures in
     let fit = c.has_shape_of.ensures.fits w in (
       record { oid = id.0; value = fit.0; fits = fit.1.0 ∙ id.2 },
-      c.in-Some.ensures ∙ ap (λ (e : DerElement). sequence (e ∷ c.in-Some.values.is.0 ∷ [])) id.1 ∙ ap (λ (e : DerElement). sequence (object_identifier id.0 ∷ e ∷ [])) fit.1.1,
+      c.in-Some.ensures ∙ ap (λ (e : DerElement). sequence (e ∷ c.in-Some.values.is.0 ∷ [])) id.1
+          ∙ ap (λ (e : DerElement). sequence (object_identifier id.0 ∷ e ∷ [])) fit.1.1,
     )

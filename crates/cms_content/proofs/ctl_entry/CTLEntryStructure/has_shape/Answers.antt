@@ -16,4 +16,5 @@ returns-then-has_shape-clause-fits c = λ w.
     )
 
 pub returns-then-has_shape-clause-unfit : goal.returns-then-has_shape-clause-unfit
-returns-then-has_shape-clause-unfit c = λ none v is. c.has_list.ensures.unfit none v.attributes (list_printed ctl_attribute 0x31 _ v.attributes (second_kid _ _ _ _ _ c.in-Some.ensures is))
+returns-then-has_shape-clause-unfit c =
+    λ none v is. c.has_list.ensures.unfit none v.attributes (list_printed ctl_attribute 0x31 _ v.attributes (second_kid _ _ _ _ _ c.in-Some.ensures is))

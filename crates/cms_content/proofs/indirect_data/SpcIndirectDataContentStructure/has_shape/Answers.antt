@@ -9,5 +9,6 @@ returns-then-has_shape-clause-fits c = λ w.
     let image = c.has_shape.ensures.fits c.if-has_shape.true in
     let digest = c.has_shape-then-has_shape.ensures.fits w in (
       record { image = image.0; message_digest = digest.0 },
-      c.in-Some.ensures ∙ ap (λ (e : DerElement). sequence (e ∷ c.in-Some.digest.is.0 ∷ [])) image.1 ∙ ap (λ (e : DerElement). sequence (spc_attribute image.0 ∷ e ∷ [])) digest.1,
+      c.in-Some.ensures ∙ ap (λ (e : DerElement). sequence (e ∷ c.in-Some.digest.is.0 ∷ [])) image.1
+          ∙ ap (λ (e : DerElement). sequence (spc_attribute image.0 ∷ e ∷ [])) digest.1,
     )

@@ -6,5 +6,9 @@ use Rattle.cms_content.specs.First.{IsFirst}
 use Rattle.cms_content.proofs.listing.attributes.usages_of.Goals as goal
 
 pub returns-in-UnknownReservedPropId127 : goal.returns-in-UnknownReservedPropId127
-returns-in-UnknownReservedPropId127 c =
-    (c.in_ok-attribute.attribute.now, subst (λ (xs : List CTLEntryAttribute). IsFirst (IsOfKind kinds.UnknownReservedPropId127) xs c.in_ok-attribute.attribute.now) c.as_slice.ensures c.in_ok-attribute.ensures, cc (c.in-UnknownReservedPropId127.is, c.as_slice-in-UnknownReservedPropId127.ensures))
+returns-in-UnknownReservedPropId127 c = (
+  c.in_ok-attribute.attribute.now,
+  subst (λ (xs : List CTLEntryAttribute). IsFirst (IsOfKind kinds.UnknownReservedPropId127) xs c.in_ok-attribute.attribute.now)
+      c.as_slice.ensures c.in_ok-attribute.ensures,
+  cc (c.in-UnknownReservedPropId127.is, c.as_slice-in-UnknownReservedPropId127.ensures),
+)

@@ -15,7 +15,8 @@ by_octets : (a b : SpcAttributeTypeAndOptionalValue) (test : Bool) → (IsTrue t
 by_octets = octets_decide spc_attribute (λ a b e. spc_attributes.once (spc_attribute a) a b refl e) spc_attributes.formed
 
 -- the types are the same, so the attributes are the same where their values are
-by_value : (a b : SpcAttributeTypeAndOptionalValue) (t : Bool) → a.ty ≡ b.ty → t ≡ option_eq (λ (x y : KeptElement). bytes_eq (encoding x.element) (encoding y.element)) a.value b.value → IsTrue t ↔ (a ≡ b)
+by_value : (a b : SpcAttributeTypeAndOptionalValue) (t : Bool) → a.ty ≡ b.ty
+    → t ≡ option_eq (λ (x y : KeptElement). bytes_eq (encoding x.element) (encoding y.element)) a.value b.value → IsTrue t ↔ (a ≡ b)
 by_value a b t ty test =
     let same = options_same _ kept_same a.value b.value in (
       λ w.
@@ -28,7 +29,8 @@ pub returns-then-eq-clause-same : goal.returns-then-eq-clause-same
 returns-then-eq-clause-same c = by_value c.args.self.now c.args.other.now _ (c.eq.ensures.same.0 c.if-eq.true) c.eq-then-eq.ensures
 
 pub returns-then-eq-clause-octets : goal.returns-then-eq-clause-octets
-returns-then-eq-clause-octets c = by_octets c.args.self.now c.args.other.now _ (by_value c.args.self.now c.args.other.now _ (c.eq.ensures.same.0 c.if-eq.true) c.eq-then-eq.ensures)
+returns-then-eq-clause-octets c =
+    by_octets c.args.self.now c.args.other.now _ (by_value c.args.self.now c.args.other.now _ (c.eq.ensures.same.0 c.if-eq.true) c.eq-then-eq.ensures)
 
 pub returns-else-eq-clause-octets : goal.returns-else-eq-clause-octets
 returns-else-eq-clause-octets c = by_octets c.args.self.now c.args.other.now _ (search rules)

@@ -11,5 +11,6 @@ returns-in-Some-clause-fits c = λ w.
     let ty = c.has_shape.ensures.fits w in
     let value = keep_option c.in-Some.fields.value in (
       record { ty = ty.0; value = value.0 },
-      c.in-Some.ensures ∙ ap (λ (e : DerElement). spc_attribute_of e (at_option c.in-Some.fields.value)) ty.1 ∙ ap (λ (v : Option DerElement). spc_attribute_of (object_identifier ty.0) v) value.1,
+      c.in-Some.ensures ∙ ap (λ (e : DerElement). spc_attribute_of e (at_option c.in-Some.fields.value)) ty.1
+          ∙ ap (λ (v : Option DerElement). spc_attribute_of (object_identifier ty.0) v) value.1,
     )

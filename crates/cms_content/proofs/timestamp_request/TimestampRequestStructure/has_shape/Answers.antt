@@ -9,5 +9,6 @@ returns-then-has_shape-clause-fits c = λ w.
     let ty = c.has_shape.ensures.fits c.if-has_shape.true in
     let content = c.has_shape-then-has_shape.ensures.fits w in (
       record { countersignature_type = ty.0; content = content.0 },
-      c.in-Some.ensures ∙ ap (λ (e : DerElement). sequence (e ∷ c.in-Some.content.is.0 ∷ [])) ty.1 ∙ ap (λ (e : DerElement). sequence (object_identifier ty.0 ∷ e ∷ [])) content.1,
+      c.in-Some.ensures ∙ ap (λ (e : DerElement). sequence (e ∷ c.in-Some.content.is.0 ∷ [])) ty.1
+          ∙ ap (λ (e : DerElement). sequence (object_identifier ty.0 ∷ e ∷ [])) content.1,
     )

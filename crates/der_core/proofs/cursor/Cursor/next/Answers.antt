@@ -11,7 +11,8 @@ pub returns-then-is_empty-clause-only : goal.returns-then-is_empty-clause-only
 returns-then-is_empty-clause-only c = λ element n begins. absurd (none_first c.args.self.now.rest.now element n (search rules) begins.first)
 
 pub returns-in_err-elem-clause-only : goal.returns-in_err-elem-clause-only
-returns-in_err-elem-clause-only c = λ element n begins. absurd (no_fault_where_first c.args.self.now.rest.now element n _ _ begins.first c.in_err-elem.ensures.1.2)
+returns-in_err-elem-clause-only c =
+    λ element n begins. absurd (no_fault_where_first c.args.self.now.rest.now element n _ _ begins.first c.in_err-elem.ensures.1.2)
 
 pub returns-in_err-elem-clause-faulty : goal.returns-in_err-elem-clause-faulty
 returns-in_err-elem-clause-faulty c = λ k fault some there.

@@ -10,4 +10,5 @@ pub unreachable-requires : goal.unreachable-requires
 unreachable-requires c = kept_not_none _ _ _ _ c.self.inside.kept.1 c.deref.ensures.value (search rules) c.in-None.ensures.0
 
 pub returns : goal.returns
-returns c = kept_first _ _ _ _ _ _ c.self.inside.kept.1 c.deref.ensures.value (search rules) c.in-Some.ensures ∙ ap (λ (k : KeptElement). k.element) c.self.view_is
+returns c = kept_first _ _ _ _ _ _ c.self.inside.kept.1 c.deref.ensures.value (search rules) c.in-Some.ensures
+    ∙ ap (λ (k : KeptElement). k.element) c.self.view_is

@@ -14,7 +14,8 @@ pub returns-in_err-elem-clause-shapeless : goal.returns-in_err-elem-clause-shape
 returns-in_err-elem-clause-shapeless g c = λ element der is none. absurd (no_fault_where_whole c.args.octets.now element _ _ der is c.in_err-elem.ensures)
 
 pub returns-then-not-has_shape-clause-faulty : goal.returns-then-not-has_shape-clause-faulty
-returns-then-not-has_shape-clause-faulty g c = λ at fault there. absurd (no_fault_where_whole c.args.octets.now _ at fault c.in_ok-elem.elem.is.1.0 c.in_ok-elem.ensures there)
+returns-then-not-has_shape-clause-faulty g c =
+    λ at fault there. absurd (no_fault_where_whole c.args.octets.now _ at fault c.in_ok-elem.elem.is.1.0 c.in_ok-elem.ensures there)
 
 pub returns-clause-faulty : goal.returns-clause-faulty
 returns-clause-faulty g c = λ at fault there. absurd (no_fault_where_whole c.args.octets.now _ at fault c.in_ok-elem.elem.is.1.0 c.in_ok-elem.ensures there)
@@ -22,7 +23,8 @@ returns-clause-faulty g c = λ at fault there. absurd (no_fault_where_whole c.ar
 pub returns-clause-shapeless : goal.returns-clause-shapeless
 returns-clause-shapeless g c = λ element der is none.
     let fit = c.has_shape.ensures.fits (search rules) in
-    absurd (none fit.0 (subst (λ e. g.Self.Structure.spells e fit.0) (whole_once c.args.octets.now _ element c.in_ok-elem.elem.is.1.0 der c.in_ok-elem.ensures is) fit.1))
+    absurd (none fit.0
+    (subst (λ e. g.Self.Structure.spells e fit.0) (whole_once c.args.octets.now _ element c.in_ok-elem.elem.is.1.0 der c.in_ok-elem.ensures is) fit.1))
 
 pub returns-then-not-has_shape-clause-answer : goal.returns-then-not-has_shape-clause-answer
 returns-then-not-has_shape-clause-answer g c = record {
@@ -33,4 +35,5 @@ returns-then-not-has_shape-clause-answer g c = record {
 }
 
 pub returns-clause-answer : goal.returns-clause-answer
-returns-clause-answer g c = read_in_octets g.Self.Structure.spells c.args.octets.now _ c.in_ok-elem.elem.is.1.0 c.in_ok-elem.ensures c.read_at.result c.read_at.ensures
+returns-clause-answer g c =
+    read_in_octets g.Self.Structure.spells c.args.octets.now _ c.in_ok-elem.elem.is.1.0 c.in_ok-elem.ensures c.read_at.result c.read_at.ensures

@@ -14,4 +14,5 @@ returns g c =
     let elem = c.in_ok-elem.elem in
     let written = c.in_ok-octets.ensures.written in
     let lent = c.deref.ensures.value in
-    subst (λ e. MatchResult c.read_at.result (g.Self.Structure.spells e) (RefusesShape (g.Self.Structure.spells e))) (same_encoded _ _ elem.is.1.0 written.0 (sym c.in_ok-elem.ensures ∙ lent ∙ written.1)) c.read_at.ensures
+    subst (λ e. MatchResult c.read_at.result (g.Self.Structure.spells e) (RefusesShape (g.Self.Structure.spells e)))
+    (same_encoded _ _ elem.is.1.0 written.0 (sym c.in_ok-elem.ensures ∙ lent ∙ written.1)) c.read_at.ensures

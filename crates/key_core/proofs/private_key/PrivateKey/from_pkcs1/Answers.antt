@@ -18,7 +18,8 @@ pub returns-in_ok-rsa_container-in-Ok-clause-faulty : goal.returns-in_ok-rsa_con
 returns-in_ok-rsa_container-in-Ok-clause-faulty c = λ at fault is. absurd (read_is_not_refused _ _ (c.in-Ok.ensures.faulty at fault is))
 
 pub returns-in-Err-clause-faulty : goal.returns-in-Err-clause-faulty
-returns-in-Err-clause-faulty c = λ at fault is. ap Err (c.unread.ensures ∙ ap (unread elements.RsaPrivateKey) (source_is _ _ (c.in-Err.ensures.faulty at fault is)))
+returns-in-Err-clause-faulty c =
+    λ at fault is. ap Err (c.unread.ensures ∙ ap (unread elements.RsaPrivateKey) (source_is _ _ (c.in-Err.ensures.faulty at fault is)))
 
 pub returns-in_err-rsa_container-in-Ok-clause-shapeless : goal.returns-in_err-rsa_container-in-Ok-clause-shapeless
 returns-in_err-rsa_container-in-Ok-clause-shapeless c = λ element der is none. absurd (read_is_not_refused _ _ (c.in-Ok.ensures.shapeless element der is none))
@@ -36,4 +37,9 @@ pub returns-in-Err-clause-answer : goal.returns-in-Err-clause-answer
 returns-in-Err-clause-answer c = (_, c.unread.ensures, c.in-Err.ensures.answer)
 
 pub returns-in_ok-rsa_container-in-Ok-clause-answer : goal.returns-in_ok-rsa_container-in-Ok-clause-answer
-returns-in_ok-rsa_container-in-Ok-clause-answer c = record { rsa = c.in-Ok.key; within = c.in-Ok.ensures.answer; container = c.in_ok-rsa_container-in-Ok.ensures; beside = refl }
+returns-in_ok-rsa_container-in-Ok-clause-answer c = record {
+  rsa = c.in-Ok.key;
+  within = c.in-Ok.ensures.answer;
+  container = c.in_ok-rsa_container-in-Ok.ensures;
+  beside = refl;
+}

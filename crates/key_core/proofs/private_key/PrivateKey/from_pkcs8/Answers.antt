@@ -19,4 +19,5 @@ pub returns-in-Ok-clause-faulty : goal.returns-in-Ok-clause-faulty
 returns-in-Ok-clause-faulty g c = λ at fault is. absurd (read_is_not_refused _ _ (c.in-Ok.ensures.faulty at fault is))
 
 pub returns-in-Err-clause-faulty : goal.returns-in-Err-clause-faulty
-returns-in-Err-clause-faulty g c = λ at fault is. ap Err (c.unread.ensures ∙ ap (unread elements.PrivateKeyInfo) (source_is _ _ (c.in-Err.ensures.faulty at fault is)))
+returns-in-Err-clause-faulty g c =
+    λ at fault is. ap Err (c.unread.ensures ∙ ap (unread elements.PrivateKeyInfo) (source_is _ _ (c.in-Err.ensures.faulty at fault is)))

@@ -15,4 +15,5 @@ pub returns-in-Ok-clause-faulty : goal.returns-in-Ok-clause-faulty
 returns-in-Ok-clause-faulty c = λ at fault is. absurd (read_is_not_refused _ _ (c.in-Ok.ensures.faulty at fault is))
 
 pub returns-in-Err-clause-faulty : goal.returns-in-Err-clause-faulty
-returns-in-Err-clause-faulty c = λ at fault is. ap Err (c.unread.ensures ∙ ap (unread elements.SubjectPublicKeyInfo) (source_is _ _ (c.in-Err.ensures.faulty at fault is)))
+returns-in-Err-clause-faulty c =
+    λ at fault is. ap Err (c.unread.ensures ∙ ap (unread elements.SubjectPublicKeyInfo) (source_is _ _ (c.in-Err.ensures.faulty at fault is)))

@@ -11,5 +11,6 @@ returns-in-Some-clause-fits c = λ w.
     let oid = c.has_shape.ensures.fits w in
     let parameters = keep_option c.in-Some.fields.parameters in (
       record { oid = oid.0; parameters = parameters.0 },
-      c.in-Some.ensures ∙ ap (λ (e : DerElement). algorithm_of e (at_option c.in-Some.fields.parameters)) oid.1 ∙ ap (λ (p : Option DerElement). algorithm_of (object_identifier oid.0) p) parameters.1,
+      c.in-Some.ensures ∙ ap (λ (e : DerElement). algorithm_of e (at_option c.in-Some.fields.parameters)) oid.1
+          ∙ ap (λ (p : Option DerElement). algorithm_of (object_identifier oid.0) p) parameters.1,
     )

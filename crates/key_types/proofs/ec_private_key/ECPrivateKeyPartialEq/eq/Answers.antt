@@ -14,7 +14,8 @@ by_octets = octets_decide ec_private_key (λ a b e. ec_private_keys.once (ec_pri
 pub returns-then-eq-2-clause-same : goal.returns-then-eq-2-clause-same
 returns-then-eq-2-clause-same c =
     elim c.if-eq.branch [
-      | then-eq w ↦ by_point c.args.self.now c.args.other.now _ _ (c.eq.ensures.same.0 w.if-eq.true) w.eq-then-eq.ensures (sym w.value-is ∙ c.if-eq-2.true) c.eq-then-eq-2.ensures
+      | then-eq w ↦ by_point c.args.self.now c.args.other.now _ _ (c.eq.ensures.same.0 w.if-eq.true) w.eq-then-eq.ensures (sym w.value-is ∙ c.if-eq-2.true)
+          c.eq-then-eq-2.ensures
       | else-eq w ↦ absurd cc (w.value-is, c.if-eq-2.true)
     ]
 

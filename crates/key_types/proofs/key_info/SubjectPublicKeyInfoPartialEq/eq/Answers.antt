@@ -12,7 +12,8 @@ pub returns-then-eq-clause-same : goal.returns-then-eq-clause-same
 returns-then-eq-clause-same c = by_key c.args.self.now c.args.other.now _ (c.eq.ensures.same.0 c.if-eq.true) c.eq-then-eq.ensures.same
 
 pub returns-then-eq-clause-octets : goal.returns-then-eq-clause-octets
-returns-then-eq-clause-octets c = octets_decide public_key_info infos_once infos_formed c.args.self.now c.args.other.now _ (by_key c.args.self.now c.args.other.now _ (c.eq.ensures.same.0 c.if-eq.true) c.eq-then-eq.ensures.same)
+returns-then-eq-clause-octets c = octets_decide public_key_info infos_once infos_formed c.args.self.now c.args.other.now _
+    (by_key c.args.self.now c.args.other.now _ (c.eq.ensures.same.0 c.if-eq.true) c.eq-then-eq.ensures.same)
 
 pub returns-else-eq-clause-octets : goal.returns-else-eq-clause-octets
 returns-else-eq-clause-octets c = octets_decide public_key_info infos_once infos_formed c.args.self.now c.args.other.now _ (search rules)

@@ -11,5 +11,9 @@ returns-in-Some-at-clause-fits c = λ w.
     let a = c.in-Some-at.ensures in
     let k = c.has_shape_of.ensures.fits w in (
       record { algorithm = a.0; subject_public_key = k.0; fits = subst (λ (kind : KeyKind). IsAlgorithmOf kind a.0) (sym k.1.0) a.2 },
-      (c.in-Some.ensures ∙ ap (λ (e : DerElement). sequence (e ∷ c.in-Some.key.is.0 ∷ [])) a.1 ∙ ap (λ (e : DerElement). sequence (algorithm_identifier a.0 ∷ e ∷ [])) k.1.1.0, k.1.1.1),
+      (
+        c.in-Some.ensures ∙ ap (λ (e : DerElement). sequence (e ∷ c.in-Some.key.is.0 ∷ [])) a.1
+            ∙ ap (λ (e : DerElement). sequence (algorithm_identifier a.0 ∷ e ∷ [])) k.1.1.0,
+        k.1.1.1,
+      ),
     )

@@ -32,10 +32,12 @@ pub returns-in-Ed-Ed-clause-octets : goal.returns-in-Ed-Ed-clause-octets
 returns-in-Ed-Ed-clause-octets c = by_octets _ _ _ (same_whole keys.Ed (λ a b e. cc) _ _ _ _ _ c.in-Ed-Ed.is-0 c.in-Ed-Ed.is-1 c.eq-in-Ed-Ed.ensures.same)
 
 pub returns-in-Mldsa-Mldsa-clause-same : goal.returns-in-Mldsa-Mldsa-clause-same
-returns-in-Mldsa-Mldsa-clause-same c = same_whole keys.Mldsa (λ a b e. cc) _ _ _ _ _ c.in-Mldsa-Mldsa.is-0 c.in-Mldsa-Mldsa.is-1 c.eq-in-Mldsa-Mldsa.ensures.same
+returns-in-Mldsa-Mldsa-clause-same c =
+    same_whole keys.Mldsa (λ a b e. cc) _ _ _ _ _ c.in-Mldsa-Mldsa.is-0 c.in-Mldsa-Mldsa.is-1 c.eq-in-Mldsa-Mldsa.ensures.same
 
 pub returns-in-Mldsa-Mldsa-clause-octets : goal.returns-in-Mldsa-Mldsa-clause-octets
-returns-in-Mldsa-Mldsa-clause-octets c = by_octets _ _ _ (same_whole keys.Mldsa (λ a b e. cc) _ _ _ _ _ c.in-Mldsa-Mldsa.is-0 c.in-Mldsa-Mldsa.is-1 c.eq-in-Mldsa-Mldsa.ensures.same)
+returns-in-Mldsa-Mldsa-clause-octets c =
+    by_octets _ _ _ (same_whole keys.Mldsa (λ a b e. cc) _ _ _ _ _ c.in-Mldsa-Mldsa.is-0 c.in-Mldsa-Mldsa.is-1 c.eq-in-Mldsa-Mldsa.ensures.same)
 
 pub returns-in_default : goal.returns-in_default
 returns-in_default c =

@@ -13,22 +13,28 @@ by_octets : (a b : AttributeValue) (t : Bool) → (IsTrue t ↔ (a ≡ b)) → t
 by_octets a b t same = octets_decide attribute_value (λ a b e. attribute_values.once (attribute_value a) a b refl e) attribute_values.formed a b t same
 
 pub returns-in-DirectoryString-DirectoryString-clause-same : goal.returns-in-DirectoryString-DirectoryString-clause-same
-returns-in-DirectoryString-DirectoryString-clause-same c = same_whole values.DirectoryString (λ a b e. cc) _ _ _ _ _ c.in-DirectoryString-DirectoryString.is-0 c.in-DirectoryString-DirectoryString.is-1 c.eq.ensures.same
+returns-in-DirectoryString-DirectoryString-clause-same c = same_whole values.DirectoryString (λ a b e. cc)
+    _ _ _ _ _ c.in-DirectoryString-DirectoryString.is-0 c.in-DirectoryString-DirectoryString.is-1 c.eq.ensures.same
 
 pub returns-in-DirectoryString-DirectoryString-clause-octets : goal.returns-in-DirectoryString-DirectoryString-clause-octets
-returns-in-DirectoryString-DirectoryString-clause-octets c = by_octets _ _ _ (same_whole values.DirectoryString (λ a b e. cc) _ _ _ _ _ c.in-DirectoryString-DirectoryString.is-0 c.in-DirectoryString-DirectoryString.is-1 c.eq.ensures.same)
+returns-in-DirectoryString-DirectoryString-clause-octets c = by_octets _ _ _ (same_whole values.DirectoryString (λ a b e. cc)
+    _ _ _ _ _ c.in-DirectoryString-DirectoryString.is-0 c.in-DirectoryString-DirectoryString.is-1 c.eq.ensures.same)
 
 pub returns-in-Ia5String-Ia5String-clause-same : goal.returns-in-Ia5String-Ia5String-clause-same
-returns-in-Ia5String-Ia5String-clause-same c = same_whole values.Ia5String (λ a b e. cc) _ _ _ _ _ c.in-Ia5String-Ia5String.is-0 c.in-Ia5String-Ia5String.is-1 c.eq-in-Ia5String-Ia5String.ensures.same
+returns-in-Ia5String-Ia5String-clause-same c =
+    same_whole values.Ia5String (λ a b e. cc) _ _ _ _ _ c.in-Ia5String-Ia5String.is-0 c.in-Ia5String-Ia5String.is-1 c.eq-in-Ia5String-Ia5String.ensures.same
 
 pub returns-in-Ia5String-Ia5String-clause-octets : goal.returns-in-Ia5String-Ia5String-clause-octets
-returns-in-Ia5String-Ia5String-clause-octets c = by_octets _ _ _ (same_whole values.Ia5String (λ a b e. cc) _ _ _ _ _ c.in-Ia5String-Ia5String.is-0 c.in-Ia5String-Ia5String.is-1 c.eq-in-Ia5String-Ia5String.ensures.same)
+returns-in-Ia5String-Ia5String-clause-octets c = by_octets _ _ _
+    (same_whole values.Ia5String (λ a b e. cc) _ _ _ _ _ c.in-Ia5String-Ia5String.is-0 c.in-Ia5String-Ia5String.is-1 c.eq-in-Ia5String-Ia5String.ensures.same)
 
 pub returns-in-Other-Other-clause-same : goal.returns-in-Other-Other-clause-same
-returns-in-Other-Other-clause-same c = same_whole values.Other (λ a b e. cc) _ _ _ _ _ c.in-Other-Other.is-0 c.in-Other-Other.is-1 (others_same _ _ _ _ _ c.element.ensures c.element-in-Other-Other.ensures c.eq-in-Other-Other.ensures.same)
+returns-in-Other-Other-clause-same c = same_whole values.Other (λ a b e. cc) _ _ _ _ _ c.in-Other-Other.is-0 c.in-Other-Other.is-1
+    (others_same _ _ _ _ _ c.element.ensures c.element-in-Other-Other.ensures c.eq-in-Other-Other.ensures.same)
 
 pub returns-in-Other-Other-clause-octets : goal.returns-in-Other-Other-clause-octets
-returns-in-Other-Other-clause-octets c = by_octets _ _ _ (same_whole values.Other (λ a b e. cc) _ _ _ _ _ c.in-Other-Other.is-0 c.in-Other-Other.is-1 (others_same _ _ _ _ _ c.element.ensures c.element-in-Other-Other.ensures c.eq-in-Other-Other.ensures.same))
+returns-in-Other-Other-clause-octets c = by_octets _ _ _ (same_whole values.Other (λ a b e. cc) _ _ _ _ _ c.in-Other-Other.is-0 c.in-Other-Other.is-1
+    (others_same _ _ _ _ _ c.element.ensures c.element-in-Other-Other.ensures c.eq-in-Other-Other.ensures.same))
 
 pub returns-in_default : goal.returns-in_default
 returns-in_default c =

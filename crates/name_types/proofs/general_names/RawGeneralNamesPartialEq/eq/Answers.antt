@@ -15,4 +15,5 @@ pub returns-clause-same : goal.returns-clause-same
 returns-clause-same c = lists_equal _ one _ _ _ _ _ c.self.view_is c.other.view_is c.eq.ensures
 
 pub returns-clause-octets : goal.returns-clause-octets
-returns-clause-octets c = octets_decide general_names (λ a b e. general_name_lists.once (general_names a) a b refl e) general_name_lists.formed _ _ _ (lists_equal _ one _ _ _ _ _ c.self.view_is c.other.view_is c.eq.ensures)
+returns-clause-octets c = octets_decide general_names (λ a b e. general_name_lists.once (general_names a) a b refl e) general_name_lists.formed _ _ _
+    (lists_equal _ one _ _ _ _ _ c.self.view_is c.other.view_is c.eq.ensures)

@@ -15,4 +15,5 @@ pub returns-clause-same : goal.returns-clause-same
 returns-clause-same c = lists_equal _ one _ _ _ _ _ c.self.view_is c.other.view_is c.eq.ensures
 
 pub returns-clause-octets : goal.returns-clause-octets
-returns-clause-octets c = octets_decide relative_distinguished_name (λ a b e. relative_distinguished_names.once (relative_distinguished_name a) a b refl e) relative_distinguished_names.formed _ _ _ (lists_equal _ one _ _ _ _ _ c.self.view_is c.other.view_is c.eq.ensures)
+returns-clause-octets c = octets_decide relative_distinguished_name (λ a b e. relative_distinguished_names.once (relative_distinguished_name a) a b refl e)
+    relative_distinguished_names.formed _ _ _ (lists_equal _ one _ _ _ _ _ c.self.view_is c.other.view_is c.eq.ensures)

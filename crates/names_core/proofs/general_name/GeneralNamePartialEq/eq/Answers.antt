@@ -5,4 +5,5 @@ use Rattle.names_core.proofs.RawNames.{named_once}
 use Rattle.names_core.proofs.general_name.GeneralNamePartialEq.eq.Goals as goal
 
 pub returns-clause-octets : goal.returns-clause-octets
-returns-clause-octets c = octets_decide named_element named_once (λ name. general_name_forms.formed (raw_name name)) c.args.self.now c.args.other.now _ c.is_same.ensures
+returns-clause-octets c =
+    octets_decide named_element named_once (λ name. general_name_forms.formed (raw_name name)) c.args.self.now c.args.other.now _ c.is_same.ensures

@@ -18,7 +18,8 @@ returns-in_err-rows-clause-each_bad_line c number h =
 pub returns-in_err-verdicts-clause-cause : goal.returns-in_err-verdicts-clause-cause
 returns-in_err-verdicts-clause-cause c =
     let p = err_from_is_err_and c.from_residual-in_err-verdicts.result c.from_residual-in_err-verdicts.ensures.1 in
-    rw (p.1, p.2) (begins_where_some c.args.bytes.now c.in_ok-rows.rows.items c.in_ok-rows.ensures.table (λ none. let no = c.in_err-verdicts.ensures.none (c.deref.ensures.value ∙ none) in absurd cc))
+    rw (p.1, p.2) (begins_where_some c.args.bytes.now c.in_ok-rows.rows.items c.in_ok-rows.ensures.table
+    (λ none. let no = c.in_err-verdicts.ensures.none (c.deref.ensures.value ∙ none) in absurd cc))
 
 pub returns-clause-each_table : goal.returns-clause-each_table
 returns-clause-each_table c rows h = table_once c.args.bytes.now _ rows c.in_ok-rows.ensures.table h
