@@ -1,10 +1,11 @@
 -- Octets are those of one certificate, which is read from them, unless memory runs out.
-use Rattle.std.proofs.Common.{◌≡◌, ℕ, List, [], ◌∷◌, ◌++◌, map, refl, sym, ap, subst, ◌∙◌}
+use Rattle.std.proofs.Common.{◌≡◌, ℕ, List, [], ◌∷◌, ◌++◌, map, refl, sym, ap, ◌∙◌}
 use Rattle.std.proofs.Math.Logic.{∥∥₁_elim}
 use Rattle.der_core.specs.Refusals.{RefusesOctets}
 use Rattle.der_core.specs.declared.error.DerError.{DerError}
 use Rattle.der_core.specs.declared.error.DerError.TheVariants as der
-use Rattle.der_core.proofs.Exact.{no_fault_where_whole, whole_once}
+use Rattle.der_core.proofs.Exact.{whole_once}
+use Rattle.der_core.proofs.Rereading.{only_memory}
 use Rattle.key_core.specs.declared.element.Element.TheVariants as elements
 use Rattle.x509_types.specs.Certificate.{IsCertificate}
 use Rattle.x509_types.specs.CertificateElements.{certificate_of}
@@ -25,15 +26,10 @@ spells_none : (kept : KeptCertificate) → ((c : Certificate) → IsCertificate 
 spells_none kept none = ∥∥₁_elim kept.spelled (λ x y. absurd x) (λ are. none kept.certificate (record { elements = kept.elements; is = refl; spelled = are }))
 
 -- octets of a certificate are refused only when out of memory
-pub refused_for_memory : (kept : KeptCertificate) (octets : List ℕ) (source : DerError) → kept_octets kept ≡ octets → RefusesOctets IsCertificate octets source → source ≡ der.Memory
-refused_for_memory kept octets (der.Malformed m) is refused =
-    absurd (no_fault_where_whole octets (certificate_of kept.elements) m.at m.fault kept.der (sym is) refused)
-refused_for_memory kept octets der.Shape is refused =
-    let same = whole_once octets refused.element (certificate_of kept.elements) refused.der kept.der refused.encoded (sym is) in
-    absurd (spells_none kept (λ c spelled. refused.none c (subst (λ e. IsCertificate e c) (sym same) spelled)))
-refused_for_memory kept octets der.TooDeep is refused = absurd refused
-refused_for_memory kept octets der.TooLong is refused = absurd refused
-refused_for_memory kept octets der.Memory is refused = refl
+pub refused_for_memory : (kept : KeptCertificate) (octets : List ℕ) (source : DerError) → kept_octets kept ≡ octets → RefusesOctets IsCertificate octets source
+    → source ≡ der.Memory
+refused_for_memory kept octets source is refused =
+    only_memory IsCertificate octets (certificate_of kept.elements) source kept.der (sym is) (spells_none kept) refused
 
 -- ---- several
 
@@ -47,7 +43,8 @@ same_certificates (x ∷ xs) (y ∷ ys) same =
     cc
 
 -- octets among those of certificates are a certificate's
-pub kept_among : (certificates : List KeptCertificate) (ahead : List (List ℕ)) (octets : List ℕ) (behind : List (List ℕ)) → map kept_octets certificates ≡ ahead ++ octets ∷ behind
+pub kept_among : (certificates : List KeptCertificate) (ahead : List (List ℕ)) (octets : List ℕ) (behind : List (List ℕ))
+    → map kept_octets certificates ≡ ahead ++ octets ∷ behind
     → (kept : KeptCertificate) × (kept_octets kept ≡ octets)
 kept_among [] [] octets behind same = absurd cc
 kept_among (kept ∷ certificates) [] octets behind same = (kept, cc)
@@ -55,7 +52,8 @@ kept_among [] (one ∷ ahead) octets behind same = absurd cc
 kept_among (kept ∷ certificates) (one ∷ ahead) octets behind same = kept_among certificates ahead octets behind (cc)
 
 -- if all are certificates, none is refused except for out of memory
-pub unread_for_memory : (octets : List (List ℕ)) (certificates : List KeptCertificate) (e : CertError) → AreKeptCertificates octets certificates → IsFirstUnread octets e → e ≡ errors.Memory
+pub unread_for_memory : (octets : List (List ℕ)) (certificates : List KeptCertificate) (e : CertError) → AreKeptCertificates octets certificates
+    → IsFirstUnread octets e → e ≡ errors.Memory
 unread_for_memory octets certificates e are h =
     let kept = kept_among certificates (map kept_octets h.read) h.unread h.others (are ∙ h.are) in
     h.refused.1 ∙ ap (unread elements.Certificate) (refused_for_memory kept.0 h.unread h.refused.0 kept.1 h.refused.2)
