@@ -11,7 +11,8 @@ use Rattle.pe_image.specs.declared.error.PeCheckError.{PeCheckError}
 use Rattle.pe_image.specs.declared.error.PeCheckError.TheVariants.{Pe, Check, Memory}
 
 module _ (a b : Judge) (policy : Policy) (octets : List ℕ)
-    (same : (hash : Option (List ℕ)) (answer : Result Accepted CheckError) → IsAnswer a (policy_for policy hash) (table_of octets) answer → IsAnswer b (policy_for policy hash) (table_of octets) answer) where
+    (same : (hash : Option (List ℕ)) (answer : Result Accepted CheckError) → IsAnswer a (policy_for policy hash) (table_of octets) answer
+    → IsAnswer b (policy_for policy hash) (table_of octets) answer) where
   table_answered : (answer : Result Accepted CheckError) → IsTableAnswer a policy octets answer → IsTableAnswer b policy octets answer
   table_answered answer h = record { image = h.image; hash = h.hash; hash_is = h.hash_is; answer = same h.hash answer h.answer }
 

@@ -46,7 +46,8 @@ first_unlinked a b w checked parents agree e h = record {
   after = h.after;
   are = h.are;
   linked = linked_chain a b w checked h.before
-      (admitted _ a b (λ q asked. agree q (subst (λ (all : List KeptCertificate). IsOfChain checked all q) (sym h.are) (chain_front checked h.before (h.parent ∷ h.after) q asked))))
+      (admitted _ a b (λ q asked.
+      agree q (subst (λ (all : List KeptCertificate). IsOfChain checked all q) (sym h.are) (chain_front checked h.before (h.parent ∷ h.after) q asked))))
       h.linked;
   broken = first_broken
       (link_rules a w (length h.before) h.parent (last_of checked h.before))
@@ -66,7 +67,8 @@ unlinked a b checks checked parents agree e h = record {
       e h.first;
 }
 
-pub chain_refused : (a b : Judge) (checks : ChainChecks) (checked : KeptCertificate) (parents : List KeptCertificate) (e : CertError) → Agree (IsOfChain checked parents) a b
+pub chain_refused : (a b : Judge) (checks : ChainChecks) (checked : KeptCertificate) (parents : List KeptCertificate) (e : CertError)
+    → Agree (IsOfChain checked parents) a b
     → IsFirstBroken (chain_rules a checks checked (Some parents)) e → IsFirstBroken (chain_rules b checks checked (Some parents)) e
 chain_refused a b checks checked parents e agree h =
     first_broken (chain_rules a checks checked (Some parents)) (chain_rules b checks checked (Some parents))
@@ -81,23 +83,35 @@ none_accepted a b checks checked h = record {
   chained = λ on. absurd (none_given (h.chained on).parents (h.chained on).is);
 }
 
-none_refused : (a b : Judge) (checks : ChainChecks) (checked : KeptCertificate) (e : CertError) → IsFirstBroken (chain_rules a checks checked None) e → IsFirstBroken (chain_rules b checks checked None) e
+none_refused : (a b : Judge) (checks : ChainChecks) (checked : KeptCertificate) (e : CertError) → IsFirstBroken (chain_rules a checks checked None) e
+    → IsFirstBroken (chain_rules b checks checked None) e
 none_refused a b checks checked e h =
-    first_broken (chain_rules a checks checked None) (chain_rules b checks checked None)
-    (same _, (same _, (same _, ((λ d unlinked. absurd (none_given unlinked.parents unlinked.is), λ d unlinked. absurd (none_given unlinked.parents unlinked.is)), (same _, tt)))))
+    first_broken (chain_rules a checks checked None) (chain_rules b checks checked None) (
+      same _,
+      (
+        same _,
+        (
+          same _,
+          ((λ d unlinked. absurd (none_given unlinked.parents unlinked.is), λ d unlinked. absurd (none_given unlinked.parents unlinked.is)), (same _, tt)),
+        ),
+      ),
+    )
     e h
 
-accepted_with : (a b : Judge) (checks : ChainChecks) (checked : KeptCertificate) (given : Option (List KeptCertificate)) → IfSome given (λ parents. Agree (IsOfChain checked parents) a b)
+accepted_with : (a b : Judge) (checks : ChainChecks) (checked : KeptCertificate) (given : Option (List KeptCertificate))
+    → IfSome given (λ parents. Agree (IsOfChain checked parents) a b)
     → IsAccepted a checks checked given → IsAccepted b checks checked given
 accepted_with a b checks checked None agree h = none_accepted a b checks checked h
 accepted_with a b checks checked (Some parents) agree h = chain_accepted a b checks checked parents (admitted _ a b agree) h
 
-refused_with : (a b : Judge) (checks : ChainChecks) (checked : KeptCertificate) (given : Option (List KeptCertificate)) (e : CertError) → IfSome given (λ parents. Agree (IsOfChain checked parents) a b)
+refused_with : (a b : Judge) (checks : ChainChecks) (checked : KeptCertificate) (given : Option (List KeptCertificate)) (e : CertError)
+    → IfSome given (λ parents. Agree (IsOfChain checked parents) a b)
     → IsFirstBroken (chain_rules a checks checked given) e → IsFirstBroken (chain_rules b checks checked given) e
 refused_with a b checks checked None e agree h = none_refused a b checks checked e h
 refused_with a b checks checked (Some parents) e agree h = chain_refused a b checks checked parents e agree h
 
-pub verified : (a b : Judge) (checks : ChainChecks) (checked : KeptCertificate) (given : Option (List KeptCertificate)) (result : Result ⊤ CertError) → IfSome given (λ parents. Agree (IsOfChain checked parents) a b)
+pub verified : (a b : Judge) (checks : ChainChecks) (checked : KeptCertificate) (given : Option (List KeptCertificate)) (result : Result ⊤ CertError)
+    → IfSome given (λ parents. Agree (IsOfChain checked parents) a b)
     → MatchResult result (λ _. IsAccepted a checks checked given) (RefusesCertBy (chain_rules a checks checked given))
     → MatchResult result (λ _. IsAccepted b checks checked given) (RefusesCertBy (chain_rules b checks checked given))
 verified a b checks checked given (Ok done) agree h = accepted_with a b checks checked given agree h

@@ -9,7 +9,8 @@ use Rattle.signature_questions.specs.Listed.{AreOfChain, AreQuestions}
 use Rattle.signature_questions.specs.Question.{Question}
 use Rattle.signature_questions.proofs.OneList.{chain_once, questions_once}
 
-pub datas_once : (octets : List ℕ) (f g : SignedDataElements) (qs rs : List Question) → HasSignedData octets f → HasSignedData octets g → AreQuestions f qs → AreQuestions g rs → qs ≡ rs
+pub datas_once : (octets : List ℕ) (f g : SignedDataElements) (qs rs : List Question) → HasSignedData octets f → HasSignedData octets g → AreQuestions f qs
+    → AreQuestions g rs → qs ≡ rs
 datas_once octets f g qs rs has there are own =
     questions_once f qs rs are (subst (λ (x : SignedDataElements). AreQuestions x rs) (one_data octets g f there has) own)
 
@@ -19,7 +20,8 @@ first_same a b above ahead same = cc
 others_same : (a b : KeptCertificate) (above ahead : List KeptCertificate) → a ∷ above ≡ b ∷ ahead → above ≡ ahead
 others_same a b above ahead same = cc
 
-pub chains_once : (a b : KeptCertificate) (above ahead : List KeptCertificate) (qs rs : List Question) → map kept_octets (a ∷ above) ≡ map kept_octets (b ∷ ahead)
+pub chains_once : (a b : KeptCertificate) (above ahead : List KeptCertificate) (qs rs : List Question)
+    → map kept_octets (a ∷ above) ≡ map kept_octets (b ∷ ahead)
     → AreOfChain a above qs → AreOfChain b ahead rs → qs ≡ rs
 chains_once a b above ahead qs rs octets are own =
     let same = same_certificates (a ∷ above) (b ∷ ahead) octets in

@@ -32,7 +32,8 @@ module _ (row : VerdictRow) (rows : List VerdictRow) (s : SignatureDigests) wher
       )
 
   skipped : is_same_signature s row.signature ≡ false → first_verdict (row ∷ rows) s ≡ first_verdict rows s
-  skipped is = ap (λ (b : Bool). option_map (λ (r : VerdictRow). r.verdict) (cond b (Some row) (find (λ (r : VerdictRow). is_same_signature s r.signature) rows))) is
+  skipped is =
+      ap (λ (b : Bool). option_map (λ (r : VerdictRow). r.verdict) (cond b (Some row) (find (λ (r : VerdictRow). is_same_signature s r.signature) rows))) is
 
   other : is_same_signature s row.signature ≡ false → s ≡ row.signature → ⊥
   other is same = let e = sym is ∙ (is_same_signature-Decides s row.signature).1 same in absurd cc
@@ -58,12 +59,14 @@ found (row ∷ rows) s = by row rows s (is_same_signature s row.signature) refl 
 
 module _ (judge : Judge) (Asked : Question → Type 0) (IsDue : Verdict → Type 0) (rows : List VerdictRow) (has : HasRowsFor judge Asked IsDue rows) where
   -- the table has the scheme's verdict, or none, which isn't due then
-  decides : (q : Question) → Asked q → Found rows (digests_of q) → (verdict_on (verdict_of rows) q ≡ verdict_on judge q) ⊎ ((IsDue (verdict_on judge q) → ⊥) × (verdict_on (verdict_of rows) q ≡ Reject))
+  decides : (q : Question) → Asked q → Found rows (digests_of q)
+      → (verdict_on (verdict_of rows) q ≡ verdict_on judge q) ⊎ ((IsDue (verdict_on judge q) → ⊥) × (verdict_on (verdict_of rows) q ≡ Reject))
   decides q asked (inl (row, among, same, verdict)) = inl (ap (λ (v : Option Verdict). unwrap_or v Reject) verdict ∙ has.judged q asked row among (sym same))
   decides q asked (inr (none, verdict)) =
       inr (λ due. none (row_of judge q) (has.due q asked due) refl, ap (λ (v : Option Verdict). unwrap_or v Reject) verdict)
 
-  pub decided : (q : Question) → Asked q → (verdict_on (verdict_of rows) q ≡ verdict_on judge q) ⊎ ((IsDue (verdict_on judge q) → ⊥) × (verdict_on (verdict_of rows) q ≡ Reject))
+  pub decided : (q : Question) → Asked q
+      → (verdict_on (verdict_of rows) q ≡ verdict_on judge q) ⊎ ((IsDue (verdict_on judge q) → ⊥) × (verdict_on (verdict_of rows) q ≡ Reject))
   decided q asked = decides q asked (found rows (digests_of q))
 
 rejected : (v w : Verdict) → (w ≢ Reject → ⊥) → v ≡ Reject → w ≡ v
@@ -77,13 +80,15 @@ rows_agree judge Asked rows has q asked = elim (decided judge Asked _ rows has q
   | inr none ↦ rejected (verdict_on (verdict_of rows) q) (verdict_on judge q) none.0 none.1
 ]
 
-pub accepted_rows_admit : (judge : Judge) (Asked : Question → Type 0) (rows : List VerdictRow) → HasAcceptedRowsOf judge Asked rows → Admits Asked judge (verdict_of rows)
+pub accepted_rows_admit : (judge : Judge) (Asked : Question → Type 0) (rows : List VerdictRow) → HasAcceptedRowsOf judge Asked rows
+    → Admits Asked judge (verdict_of rows)
 accepted_rows_admit judge Asked rows has q asked accepts = elim (decided judge Asked _ rows has q asked) [
   | inl same ↦ same ∙ accepts
   | inr none ↦ absurd (none.0 accepts)
 ]
 
-pub accepted_rows_are_admitted : (judge : Judge) (Asked : Question → Type 0) (rows : List VerdictRow) → HasAcceptedRowsOf judge Asked rows → Admits Asked (verdict_of rows) judge
+pub accepted_rows_are_admitted : (judge : Judge) (Asked : Question → Type 0) (rows : List VerdictRow) → HasAcceptedRowsOf judge Asked rows
+    → Admits Asked (verdict_of rows) judge
 accepted_rows_are_admitted judge Asked rows has q asked accepts = elim (decided judge Asked _ rows has q asked) [
   | inl same ↦ sym same ∙ accepts
   | inr none ↦ absurd (let e = sym accepts ∙ none.1 in cc)
@@ -92,7 +97,8 @@ accepted_rows_are_admitted judge Asked rows has q asked accepts = elim (decided 
 -- ---- the rows of more questions
 
 -- a table has the rows that it is made of
-pub own_rows : (judge : Judge) (Asked : Question → Type 0) (IsDue : Verdict → Type 0) (rows : List VerdictRow) → AreRowsFor judge Asked IsDue rows → HasRowsFor judge Asked IsDue rows
+pub own_rows : (judge : Judge) (Asked : Question → Type 0) (IsDue : Verdict → Type 0) (rows : List VerdictRow) → AreRowsFor judge Asked IsDue rows
+    → HasRowsFor judge Asked IsDue rows
 own_rows judge Asked IsDue rows are = record {
   judged = λ q asked row among same.
       let there = are.of_questions row among in
@@ -101,14 +107,16 @@ own_rows judge Asked IsDue rows are = record {
 }
 
 -- a row of the others that names the signature of a question has the same verdict
-other_row : (judge : Judge) (Asked Others : Question → Type 0) (IsDue : Verdict → Type 0) (more : List VerdictRow) → AreRowsFor judge Others IsDue more → AreApart judge Asked Others
+other_row : (judge : Judge) (Asked Others : Question → Type 0) (IsDue : Verdict → Type 0) (more : List VerdictRow) → AreRowsFor judge Others IsDue more
+    → AreApart judge Asked Others
     → (q : Question) → Asked q → (row : VerdictRow) → Contains more row → row.signature ≡ digests_of q → row.verdict ≡ verdict_on judge q
 other_row judge Asked Others IsDue more are apart q asked row among same =
     let there = are.of_questions row among in
     ap (λ (r : VerdictRow). r.verdict) there.2 ∙ sym (apart q there.0 asked there.1 (sym same ∙ ap (λ (r : VerdictRow). r.signature) there.2))
 
 -- two tables behind each other have the rows of both
-pub joined_rows : (judge : Judge) (Asked Others : Question → Type 0) (IsDue : Verdict → Type 0) (rows more : List VerdictRow) → AreRowsFor judge Asked IsDue rows → AreRowsFor judge Others IsDue more → AreApart judge Asked Others
+pub joined_rows : (judge : Judge) (Asked Others : Question → Type 0) (IsDue : Verdict → Type 0) (rows more : List VerdictRow)
+    → AreRowsFor judge Asked IsDue rows → AreRowsFor judge Others IsDue more → AreApart judge Asked Others
     → HasRowsFor judge Asked IsDue (rows ++ more) × HasRowsFor judge Others IsDue (rows ++ more)
 joined_rows judge Asked Others IsDue rows more are also apart = (
   record {

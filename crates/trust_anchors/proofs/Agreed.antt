@@ -1,7 +1,8 @@
 -- A search under a scheme, and under one that agrees with it on the links.
 use Rattle.std.proofs.Common.{◌≡◌, ◌⊎◌, ◌<◌, ℕ, List, [], ◌∷◌, ◌++◌, length, Option, Some, None, inl, inr, refl, sym, subst, arith}
 use Rattle.std.specs.Prelude.{Contains, MatchOption, slice_get}
-use Rattle.std.proofs.lemmas.List.Elements.{Contains-append_cases, Contains-append_left, Contains-append_right, Contains-get_or, Contains-push, Contains-push_cases}
+use Rattle.std.proofs.lemmas.List.Elements.{Contains-append_cases, Contains-append_left, Contains-append_right}
+use Rattle.std.proofs.lemmas.List.Elements.{Contains-get_or, Contains-push, Contains-push_cases}
 use Rattle.std.proofs.lemmas.Option.{get_or_from_slice_get, slice_get_within}
 use Rattle.asn1_types.specs.declared.generalized_time.GeneralizedTime.{GeneralizedTime}
 use Rattle.key_core.specs.Verifying.{Judge}
@@ -38,7 +39,8 @@ module _ {K : Type 0} where
   ]
 
   at_index : (xs : List K) (index : ℕ) (x : K) → slice_get xs index ≡ Some x → Contains xs x
-  at_index xs index x is = subst (λ (y : K). Contains xs y) (get_or_from_slice_get xs index x x is) (Contains-get_or xs index x (slice_get_within xs index x is))
+  at_index xs index x is =
+      subst (λ (y : K). Contains xs y) (get_or_from_slice_get xs index x x is) (Contains-get_or xs index x (slice_get_within xs index x is))
 
   last_there : (checked : K) (before : List K) → (last_of checked before ≡ checked) ⊎ Contains before (last_of checked before)
   last_there checked [] = inl refl
@@ -47,7 +49,8 @@ module _ {K : Type 0} where
     | inr more ↦ inr (Contains-append_right (parent ∷ []) before (last_of parent before) more)
   ]
 
-at_indices : (pool : List KeptCertificate) (indices : List ℕ) (certificates : List KeptCertificate) → AreAt pool indices certificates → (x : KeptCertificate) → Contains certificates x → Contains pool x
+at_indices : (pool : List KeptCertificate) (indices : List ℕ) (certificates : List KeptCertificate) → AreAt pool indices certificates → (x : KeptCertificate)
+    → Contains certificates x → Contains pool x
 at_indices pool [] [] are x h = absurd (none_there x h)
 at_indices pool [] (y ∷ ys) are x h = absurd cc
 at_indices pool (i ∷ indices) [] are x h = absurd cc
@@ -62,12 +65,14 @@ at_indices pool (i ∷ indices) (y ∷ ys) are x h =
 -- ---- paths
 
 module _ (a b : Judge) (date : GeneralizedTime) (checked : KeptCertificate) (pool : List KeptCertificate) (anchors : List Anchor) (purpose : Purpose) where
-  module _ (path : AnchoredPath) (found : IsAnchoredPath a date checked pool anchors purpose path) (before : List KeptCertificate) (parent : KeptCertificate) where
+  module _ (path : AnchoredPath) (found : IsAnchoredPath a date checked pool anchors purpose path) (before : List KeptCertificate)
+      (parent : KeptCertificate) where
     -- a parent on the path is of the pool, or the anchor
     is_above : IsPlace found.between before found.anchor.cert parent → IsAbove pool anchors purpose parent
     is_above (inl (p, q)) = inr (found.anchor, at_index anchors path.anchor found.anchor found.last, found.serves, sym q)
     is_above (inr (rest, p)) =
-        inl (at_indices pool path.pool found.between found.are parent (subst (λ (xs : List KeptCertificate). Contains xs parent) (sym p) (Contains-append_right before (parent ∷ rest) parent (first_there parent rest))))
+        inl (at_indices pool path.pool found.between found.are parent
+        (subst (λ (xs : List KeptCertificate). Contains xs parent) (sym p) (Contains-append_right before (parent ∷ rest) parent (first_there parent rest))))
 
     among : (child : KeptCertificate) → IsPlace found.between before found.anchor.cert parent → Contains before child → Contains found.between child
     among child (inl (p, q)) h = subst (λ (xs : List KeptCertificate). Contains xs child) (sym p) h
@@ -80,7 +85,8 @@ module _ (a b : Judge) (date : GeneralizedTime) (checked : KeptCertificate) (poo
       | inr more ↦ inr (at_indices pool path.pool found.between found.are (last_of checked before) (among (last_of checked before) there more))
     ]
 
-  pub path_moved : ((parent child : KeptCertificate) → IsAbove pool anchors purpose parent → IsBelow checked pool child → IsSignedBy a parent.elements child.elements → IsSignedBy b parent.elements child.elements)
+  pub path_moved : ((parent child : KeptCertificate) → IsAbove pool anchors purpose parent → IsBelow checked pool child
+      → IsSignedBy a parent.elements child.elements → IsSignedBy b parent.elements child.elements)
       → (path : AnchoredPath) → IsAnchoredPath a date checked pool anchors purpose path → IsAnchoredPath b date checked pool anchors purpose path
   path_moved says path found = record {
     few = found.few;
@@ -103,7 +109,8 @@ module _ (a b : Judge) (date : GeneralizedTime) (checked : KeptCertificate) (poo
   }
 
 -- what is found among some paths is found among the same ones
-same_found : (IsOne IsOther : AnchoredPath → Type 0) → ((path : AnchoredPath) → IsOne path → IsOther path) → ((path : AnchoredPath) → IsOther path → IsOne path) → (found : Option AnchoredPath)
+same_found : (IsOne IsOther : AnchoredPath → Type 0) → ((path : AnchoredPath) → IsOne path → IsOther path) → ((path : AnchoredPath) → IsOther path → IsOne path)
+    → (found : Option AnchoredPath)
     → MatchOption found (HasNoPath IsOne) (IsFirstPath IsOne) → MatchOption found (HasNoPath IsOther) (IsFirstPath IsOther)
 same_found IsOne IsOther there back None none = λ path is. none path (back path is)
 same_found IsOne IsOther there back (Some path) first = record {
@@ -112,7 +119,8 @@ same_found IsOne IsOther there back (Some path) first = record {
   first = λ other is long. first.first other (back other is) long;
 }
 
-pub found_alike : (a b : Judge) (date : GeneralizedTime) (checked : KeptCertificate) (pool : List KeptCertificate) (anchors : List Anchor) (purpose : Purpose) (found : Option AnchoredPath) → AgreeOnLinks a b checked pool anchors purpose
+pub found_alike : (a b : Judge) (date : GeneralizedTime) (checked : KeptCertificate) (pool : List KeptCertificate) (anchors : List Anchor) (purpose : Purpose)
+    (found : Option AnchoredPath) → AgreeOnLinks a b checked pool anchors purpose
     → MatchOption found (HasNoPath (IsAnchoredPath a date checked pool anchors purpose)) (IsFirstPath (IsAnchoredPath a date checked pool anchors purpose))
     → MatchOption found (HasNoPath (IsAnchoredPath b date checked pool anchors purpose)) (IsFirstPath (IsAnchoredPath b date checked pool anchors purpose))
 found_alike a b date checked pool anchors purpose found agree h =

@@ -11,7 +11,8 @@ returns-clause-agreed c = λ judge f rows has. rows_agree judge (IsQuestion f) r
 pub returns-clause-answer : goal.returns-clause-answer
 returns-clause-answer c = λ judge policy octets rows result has. (
   λ h. answered judge (verdict_of rows) policy octets result (λ f there. rows_agree judge (IsQuestion f) rows (has f there)) h,
-  λ h. answered (verdict_of rows) judge policy octets result (λ f there. turned (IsQuestion f) judge (verdict_of rows) (rows_agree judge (IsQuestion f) rows (has f there))) h,
+  λ h. answered (verdict_of rows) judge policy octets result
+      (λ f there. turned (IsQuestion f) judge (verdict_of rows) (rows_agree judge (IsQuestion f) rows (has f there))) h,
 )
 
 pub returns-clause-trusted : goal.returns-clause-trusted

@@ -10,8 +10,10 @@ returns-clause-agreed c = λ judge f rows are. rows_agree judge (IsQuestion f) r
 
 pub returns-clause-answer : goal.returns-clause-answer
 returns-clause-answer c = λ judge policy octets rows result are. (
-  λ h. answered judge (verdict_of rows) policy octets result (λ f has. rows_agree judge (IsQuestion f) rows (own_rows judge (IsQuestion f) _ rows (are f has))) h,
-  λ h. answered (verdict_of rows) judge policy octets result (λ f has. turned (IsQuestion f) judge (verdict_of rows) (rows_agree judge (IsQuestion f) rows (own_rows judge (IsQuestion f) _ rows (are f has)))) h,
+  λ h. answered judge (verdict_of rows) policy octets result
+      (λ f has. rows_agree judge (IsQuestion f) rows (own_rows judge (IsQuestion f) _ rows (are f has))) h,
+  λ h. answered (verdict_of rows) judge policy octets result
+      (λ f has. turned (IsQuestion f) judge (verdict_of rows) (rows_agree judge (IsQuestion f) rows (own_rows judge (IsQuestion f) _ rows (are f has)))) h,
 )
 
 pub returns-clause-trusted : goal.returns-clause-trusted
@@ -21,7 +23,8 @@ returns-clause-trusted c = λ judge policy f rows accepted are. (
 )
 
 pub returns-clause-chain : goal.returns-clause-chain
-returns-clause-chain c = λ judge checked parents rows are. rows_agree judge (IsOfChain checked parents) rows (own_rows judge (IsOfChain checked parents) _ rows are)
+returns-clause-chain c =
+    λ judge checked parents rows are. rows_agree judge (IsOfChain checked parents) rows (own_rows judge (IsOfChain checked parents) _ rows are)
 
 pub returns-clause-chain_accepted : goal.returns-clause-chain_accepted
 returns-clause-chain_accepted c = λ judge checked parents rows are.
