@@ -18,7 +18,8 @@ SIGNATURE = re.compile(r"( *)(?:abbrev |pub |unfoldable |opaque )*(data |record 
 GIVEN = {"Answers", "Invariants", "Proof", "Goals", "Given", "Lib"}
 # Proofs that the kit looks for by their names.
 OF_THE_KIT = "TheSendSync"
-KEYWORDS = {"use", "module", "let", "in", "where", "mutual", "--"}
+# What no signature begins with; a line that goes on from a signature may look like one.
+KEYWORDS = {"use", "module", "let", "in", "where", "mutual", "--", "→", "×", "⊎", "↔"}
 
 
 def without_comments(text: str) -> list[str]:

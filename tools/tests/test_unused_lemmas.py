@@ -35,6 +35,11 @@ class UnusedLemmas(unittest.TestCase):
         text = "loops : (n : ℕ) → ℕ\nloops zero = zero\nloops (suc n) = loops n\n"
         self.assertEqual(answer_of({"one/proofs/A.antt": text})[1][0], "one/proofs/A.antt:1: loops")
 
+    def test_a_line_that_goes_on_from_a_signature_is_no_definition(self):
+        text = "loops : (n : ℕ)\n    → (m : ℕ) → (k : loops_of m) → ℕ\nloops zero m k = zero\nloops (suc n) m k = loops n m k\n"
+        status, lines = answer_of({"one/proofs/A.antt": text})
+        self.assertEqual(lines, ["one/proofs/A.antt:1: loops", "lemmas and definitions that nothing uses: 1, of 1"])
+
     def test_a_use_is_another_definition_another_file_or_a_source(self):
         other = "pub more : (n : ℕ) → n ≡ n\nmore n = twice n\n"
         answers = {"one/proofs/f/Answers.antt": "pub goal : A\ngoal = twice 2\n"}

@@ -10,7 +10,8 @@ use Rattle.der_core.specs.Facts.Kept.{same_kept}
 use Rattle.der_core.specs.Facts.Equality.{by_test, octets_decide, octets_same, options_same, pointwise_same, kept_same}
 
 -- the octets that are written for a value determine it
-one_same : {X : Type 0} (written : X → DerElement) → IsGrammar (λ element value. element ≡ written value) written (λ value. []) → (a b : X) → IsTrue (same_octets written a b) ↔ (a ≡ b)
+one_same : {X : Type 0} (written : X → DerElement) → IsGrammar (λ element value. element ≡ written value) written (λ value. []) → (a b : X)
+    → IsTrue (same_octets written a b) ↔ (a ≡ b)
 one_same written grammar = octets_same written (λ a b e. grammar.once (written a) a b refl e) grammar.formed
 
 pub option_same : {X : Type 0} (written : X → DerElement) → IsGrammar (λ element value. element ≡ written value) written (λ value. [])
@@ -30,9 +31,11 @@ option_list_same written grammar a b t test =
 pub elements_same : (a b : List KeptElement) (t : Bool) → t ≡ pointwise (same_octets (λ (kept : KeptElement). kept.element)) a b → IsTrue t ↔ (a ≡ b)
 elements_same a b t test = by_test t _ (a ≡ b) test (pointwise_same (same_octets (λ (kept : KeptElement). kept.element)) kept_same a b)
 
-pub option_elements_same : (a b : Option (List KeptElement)) (t : Bool) → t ≡ option_eq (pointwise (same_octets (λ (kept : KeptElement). kept.element))) a b → IsTrue t ↔ (a ≡ b)
+pub option_elements_same : (a b : Option (List KeptElement)) (t : Bool) → t ≡ option_eq (pointwise (same_octets (λ (kept : KeptElement). kept.element))) a b
+    → IsTrue t ↔ (a ≡ b)
 option_elements_same a b t test =
-    by_test t _ (a ≡ b) test (options_same (pointwise (same_octets (λ (kept : KeptElement). kept.element))) (pointwise_same (same_octets (λ (kept : KeptElement). kept.element)) kept_same) a b)
+    by_test t _ (a ≡ b) test (options_same (pointwise (same_octets (λ (kept : KeptElement). kept.element)))
+    (pointwise_same (same_octets (λ (kept : KeptElement). kept.element)) kept_same) a b)
 
 -- a test for equality is one of the octets, and of the elements
 pub by_octets : {X : Type 0} (written : X → DerElement) → IsGrammar (λ element value. element ≡ written value) written (λ value. [])

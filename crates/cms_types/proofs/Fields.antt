@@ -59,16 +59,20 @@ signer_by_fields e f s of is =
     subst (λ (g : SignerElements). AreFieldsOf g s) same (own_fields s)
 
 -- a value of the fields is one of the element
-pub signer_of_fields : (e : DerElement) (f : SignerElements) (r : Result SignerInfo DerError) → IsSignerOf e f → MatchResult r (AreFieldsOf f) (RefusesShape (AreFieldsOf f)) → MatchResult r (λ s. e ≡ signer_info s) (RefusesShape (λ (s : SignerInfo). e ≡ signer_info s))
+pub signer_of_fields : (e : DerElement) (f : SignerElements) (r : Result SignerInfo DerError) → IsSignerOf e f →
+    MatchResult r (AreFieldsOf f) (RefusesShape (AreFieldsOf f)) → MatchResult r (λ s. e ≡ signer_info s) (RefusesShape (λ (s : SignerInfo). e ≡ signer_info s))
 signer_of_fields e f (Ok s) of are = of.is ∙ ap signer_of (signer_same f s are)
-signer_of_fields e f (Err error) of refused = list_refused (AreFieldsOf f) (λ (s : SignerInfo). e ≡ signer_info s) error (λ s is. (s, signer_by_fields e f s of is)) refused
+signer_of_fields e f (Err error) of refused =
+    list_refused (AreFieldsOf f) (λ (s : SignerInfo). e ≡ signer_info s) error (λ s is. (s, signer_by_fields e f s of is)) refused
 
 -- if a part encodes no value, the whole encodes none
 pub no_signed_by : (f : SignerElements) (e : DerError) → RefusesShape (AreSignedByFields f) e → RefusesShape (AreFieldsOf f) e
-no_signed_by f e = list_refused (AreSignedByFields f) (AreFieldsOf f) e (λ s p. (signed_by s, record { sid = p.sid; digest_algorithm = p.digest_algorithm; signature_algorithm = p.signature_algorithm }))
+no_signed_by f e = list_refused (AreSignedByFields f) (AreFieldsOf f) e
+    (λ s p. (signed_by s, record { sid = p.sid; digest_algorithm = p.digest_algorithm; signature_algorithm = p.signature_algorithm }))
 
 pub no_signature : (f : SignerElements) (e : DerError) → RefusesShape (AreSignatureFields f) e → RefusesShape (AreFieldsOf f) e
-no_signature f e = list_refused (AreSignatureFields f) (AreFieldsOf f) e (λ s p. (signature_fields s, record { signed_attrs = p.signed_attrs; signature = p.signature; unsigned_attrs = p.unsigned_attrs }))
+no_signature f e = list_refused (AreSignatureFields f) (AreFieldsOf f) e
+    (λ s p. (signature_fields s, record { signed_attrs = p.signed_attrs; signature = p.signature; unsigned_attrs = p.unsigned_attrs }))
 
 -- ---- signed data
 
@@ -103,13 +107,17 @@ data_by_fields e f d of is =
     subst (λ (g : SignedDataElements). AreDataFields g d) same (own_data d)
 
 -- a value of the fields is one of the element
-pub data_of_fields : (e : DerElement) (f : SignedDataElements) (r : Result SignedData DerError) → IsSignedDataOf e f → MatchResult r (AreDataFields f) (RefusesShape (AreDataFields f)) → MatchResult r (λ d. e ≡ signed_data d) (RefusesShape (λ (d : SignedData). e ≡ signed_data d))
+pub data_of_fields : (e : DerElement) (f : SignedDataElements) (r : Result SignedData DerError)
+    → IsSignedDataOf e f → MatchResult r (AreDataFields f) (RefusesShape (AreDataFields f))
+    → MatchResult r (λ d. e ≡ signed_data d) (RefusesShape (λ (d : SignedData). e ≡ signed_data d))
 data_of_fields e f (Ok d) of are = of.is ∙ ap signed_data_of (data_same f d are)
-data_of_fields e f (Err error) of refused = list_refused (AreDataFields f) (λ (d : SignedData). e ≡ signed_data d) error (λ d is. (d, data_by_fields e f d of is)) refused
+data_of_fields e f (Err error) of refused =
+    list_refused (AreDataFields f) (λ (d : SignedData). e ≡ signed_data d) error (λ d is. (d, data_by_fields e f d of is)) refused
 
 -- if a part encodes no value, the whole encodes none
 pub none_signed : (f : SignedDataElements) (e : DerError) → RefusesShape (AreSigned f) e → RefusesShape (AreDataFields f) e
-none_signed f e = list_refused (AreSigned f) (AreDataFields f) e (λ d p. (signed_of d, record { digest_algorithms = p.digest_algorithms; content_info = p.content_info; signers_infos = p.signers_infos }))
+none_signed f e = list_refused (AreSigned f) (AreDataFields f) e
+    (λ d p. (signed_of d, record { digest_algorithms = p.digest_algorithms; content_info = p.content_info; signers_infos = p.signers_infos }))
 
 pub none_carried : (f : SignedDataElements) (e : DerError) → RefusesShape (AreCarriedFields f) e → RefusesShape (AreDataFields f) e
 none_carried f e = list_refused (AreCarriedFields f) (AreDataFields f) e (λ d p. (carried_of d, record { certificates = p.certificates; crls = p.crls }))

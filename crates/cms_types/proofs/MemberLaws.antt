@@ -17,7 +17,8 @@ use Rattle.cms_types.proofs.SignerLaws.{signer_reads, token_reads, only_memory}
 
 -- the member at an index, as written
 pub member_found : {X : Type 0} (written : X → DerElement) (items xs : List KeptElement) (place : ℕ) (kept : KeptElement) (element : DerElement) (value : X)
-    → xs ≡ items → slice_get xs place ≡ Some kept → element ≡ kept.element → element ≡ written value → Some (written value) ≡ option_map element_of_kept (slice_get items place)
+    → xs ≡ items → slice_get xs place ≡ Some kept → element ≡ kept.element → element ≡ written value
+    → Some (written value) ≡ option_map element_of_kept (slice_get items place)
 member_found written items xs place kept element value same at is spelled =
     ap Some (sym spelled ∙ is) ∙ ap (option_map element_of_kept) (sym at ∙ ap (λ (ys : List KeptElement). slice_get ys place) same)
 

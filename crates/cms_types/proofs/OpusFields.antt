@@ -51,7 +51,8 @@ links_same : (a b : Option SpcLink) → IsTrue (option_eq link_eq a b) ↔ (a �
 links_same = options_same link_eq (octets_same spc_link (λ x y e. spc_links.once (spc_link x) x y refl e) spc_links.formed)
 
 -- the names are the same, so the values are the same where the links are
-pub by_link : (a b : SpcSpOpusInfo) (first last : Bool) → first ≡ option_eq string_eq a.program_name b.program_name → IsTrue first → last ≡ option_eq link_eq a.more_info b.more_info → IsTrue last ↔ (a ≡ b)
+pub by_link : (a b : SpcSpOpusInfo) (first last : Bool) → first ≡ option_eq string_eq a.program_name b.program_name → IsTrue first
+    → last ≡ option_eq link_eq a.more_info b.more_info → IsTrue last ↔ (a ≡ b)
 by_link a b first last names w links =
     let program_name = (names_same a.program_name b.program_name).0 (sym names ∙ w) in
     let same = links_same a.more_info b.more_info in (

@@ -39,7 +39,8 @@ use Rattle.cms_types.specs.SignedData.{signed_data_elements, signed_data}
 use Rattle.cms_types.specs.Pkcs7Elements.{pkcs7_of}
 use Rattle.cms_types.specs.Pkcs7.{pkcs7}
 use Rattle.cms_types.specs.Levels.{OfOption, IsConstructed, IsSignerOf, IsSignedDataOf, IsUnsignedOf}
-use Rattle.cms_types.specs.Signers.{IsSignerInfo, Bare, WithUnsigned, IsUnsignedAttribute, Counter, MsCounter, Any, IsSignedData, Signed, IsPkcs7, Pkcs7, AreSignerInfos, NoSigners, MoreSigners, AreUnsignedAttributes, NoUnsigned, MoreUnsigned, ArePkcs7s, NoPkcs7s, MorePkcs7s}
+use Rattle.cms_types.specs.Signers.{IsSignerInfo, Bare, WithUnsigned, IsUnsignedAttribute, Counter, MsCounter, Any, IsSignedData, Signed, IsPkcs7, Pkcs7}
+use Rattle.cms_types.specs.Signers.{AreSignerInfos, NoSigners, MoreSigners, AreUnsignedAttributes, NoUnsigned, MoreUnsigned, ArePkcs7s, NoPkcs7s, MorePkcs7s}
 use Rattle.cms_types.specs.Facts.SignerElements.{signer_tail, signer_kids, data_tail, data_kids}
 use Rattle.cms_types.specs.declared.signed_data.certificate_choices.CertificateChoices.{CertificateChoices}
 use Rattle.cms_types.specs.declared.signed_data.certificate_choices.CertificateChoices.TheVariants as choices
@@ -82,7 +83,8 @@ counter_oid : (oid : List ℕ) → kinds.CounterSign ≡ named_unsigned oid → 
 counter_oid oid e = (bytes_eq-Decides oid COUNTERSIGNATURE.now).0 (counter_test (bytes_eq oid COUNTERSIGNATURE.now) (bytes_eq oid RFC3161_COUNTER_SIGN.now) e)
 
 ms_counter_oid : (oid : List ℕ) → kinds.MsCounterSign ≡ named_unsigned oid → oid ≡ RFC3161_COUNTER_SIGN.now
-ms_counter_oid oid e = (bytes_eq-Decides oid RFC3161_COUNTER_SIGN.now).0 (ms_counter_test (bytes_eq oid COUNTERSIGNATURE.now) (bytes_eq oid RFC3161_COUNTER_SIGN.now) e)
+ms_counter_oid oid e =
+    (bytes_eq-Decides oid RFC3161_COUNTER_SIGN.now).0 (ms_counter_test (bytes_eq oid COUNTERSIGNATURE.now) (bytes_eq oid RFC3161_COUNTER_SIGN.now) e)
 
 counter : ObjectIdentifier
 counter = record { contents = COUNTERSIGNATURE.now; formed = known_is COUNTERSIGNATURE.now refl }
@@ -101,8 +103,13 @@ ms_counter_is = refl
 -- ---- unsigned attributes
 
 -- an attribute with this OID and these values
-unsigned_with : (ty : ObjectIdentifier) (oid : List ℕ) (kind : UnsignedKind) (e : DerElement) (values : List DerElement) → identifier_contents ty ≡ oid → kind ≡ named_unsigned oid → e ≡ attribute_of oid values → IsUnsignedOf e kind values
-unsigned_with ty oid kind e values same named is = record { ty = ty; is = is ∙ ap (λ o. attribute_of o values) (sym same); named = named ∙ ap named_unsigned (sym same) }
+unsigned_with : (ty : ObjectIdentifier) (oid : List ℕ) (kind : UnsignedKind) (e : DerElement) (values : List DerElement) → identifier_contents ty ≡ oid
+    → kind ≡ named_unsigned oid → e ≡ attribute_of oid values → IsUnsignedOf e kind values
+unsigned_with ty oid kind e values same named is = record {
+  ty = ty;
+  is = is ∙ ap (λ o. attribute_of o values) (sym same);
+  named = named ∙ ap named_unsigned (sym same);
+}
 
 pub counter_of : (e : DerElement) (values : List DerElement) → e ≡ attribute_of COUNTERSIGNATURE.now values → IsUnsignedOf e kinds.CounterSign values
 counter_of e values is = unsigned_with counter COUNTERSIGNATURE.now kinds.CounterSign e values counter_is refl is
@@ -120,16 +127,21 @@ of_ms_counter e values of = of.is ∙ ap (λ o. attribute_of o values) (ms_count
 two_in : (s t e : DerElement) → IsDer e → e ≡ sequence (s ∷ t ∷ []) → IsDer t
 two_in s t e der is = (inside 0x30 e (s ∷ t ∷ []) der is).1.0
 
-unsigned_values : (e : DerElement) (kind : UnsignedKind) (values : List DerElement) → IsDer e → IsUnsignedOf e kind values → (kept : List KeptElement) × (values ≡ elements_of_kept kept)
+unsigned_values : (e : DerElement) (kind : UnsignedKind) (values : List DerElement) → IsDer e → IsUnsignedOf e kind values
+    → (kept : List KeptElement) × (values ≡ elements_of_kept kept)
 unsigned_values e kind values der of = keep_all values (inside 0x31 (set values) values (two_in (object_identifier of.ty) (set values) e der of.is) refl)
 
 pub value_of_unsigned : (e : DerElement) → IsDer e → IsUnsignedAttribute e → (a : UnsignedAttribute) × (e ≡ unsigned_attribute a)
 value_of_unsigned e der (Counter {values = v} of each) =
-    let kept = unsigned_values e kinds.CounterSign v der of in
-    (attributes.CounterSign (record { items = kept.0; all = ∣ subst AreSignerInfos kept.1 each ∣₁ }), of_counter e v of ∙ ap (attribute_of COUNTERSIGNATURE.now) kept.1)
+    let kept = unsigned_values e kinds.CounterSign v der of in (
+      attributes.CounterSign (record { items = kept.0; all = ∣ subst AreSignerInfos kept.1 each ∣₁ }),
+      of_counter e v of ∙ ap (attribute_of COUNTERSIGNATURE.now) kept.1,
+    )
 value_of_unsigned e der (MsCounter {values = v} of each) =
-    let kept = unsigned_values e kinds.MsCounterSign v der of in
-    (attributes.MsCounterSign (record { items = kept.0; all = ∣ subst ArePkcs7s kept.1 each ∣₁ }), of_ms_counter e v of ∙ ap (attribute_of RFC3161_COUNTER_SIGN.now) kept.1)
+    let kept = unsigned_values e kinds.MsCounterSign v der of in (
+      attributes.MsCounterSign (record { items = kept.0; all = ∣ subst ArePkcs7s kept.1 each ∣₁ }),
+      of_ms_counter e v of ∙ ap (attribute_of RFC3161_COUNTER_SIGN.now) kept.1,
+    )
 value_of_unsigned e der (Any {values = v} of) =
     let kept = unsigned_values e kinds.Other v der of in
     (attributes.Raw (record { ty = of.ty; values = kept.0; other = sym of.named }), of.is ∙ ap (attribute_of (identifier_contents of.ty)) kept.1)
@@ -137,7 +149,8 @@ value_of_unsigned e der (Any {values = v} of) =
 pub unsigned_of_value : (e : DerElement) (a : UnsignedAttribute) → e ≡ unsigned_attribute a → ∥ IsUnsignedAttribute e ∥₁
 unsigned_of_value e (attributes.CounterSign v) is = ∥∥₁_map v.all (λ each. Counter (counter_of e (elements_of_kept v.items) is) each)
 unsigned_of_value e (attributes.MsCounterSign v) is = ∥∥₁_map v.all (λ each. MsCounter (ms_counter_of e (elements_of_kept v.items) is) each)
-unsigned_of_value e (attributes.Raw r) is = ∣ Any {values = elements_of_kept r.values} (unsigned_with r.ty (identifier_contents r.ty) kinds.Other e (elements_of_kept r.values) refl (sym r.other) is) ∣₁
+unsigned_of_value e (attributes.Raw r) is = ∣ Any {values = elements_of_kept r.values}
+    (unsigned_with r.ty (identifier_contents r.ty) kinds.Other e (elements_of_kept r.values) refl (sym r.other) is) ∣₁
 
 values_of_unsigned : (es : List DerElement) → AreDer es → AreUnsignedAttributes es → (us : List UnsignedAttribute) × (es ≡ map unsigned_attribute us)
 values_of_unsigned es der NoUnsigned = ([], refl)
@@ -152,7 +165,8 @@ unsigned_of_values (a ∷ us) = ∥∥₁_map₂ (unsigned_of_value (unsigned_at
 
 -- ---- the fields of signers
 
-signed_value : (a : Option DerElement) → OfOption IsDer a → OfOption (Fits AreAttributes) a → (v : Option SignedAttributes) × (a ≡ option_map signed_attributes v)
+signed_value : (a : Option DerElement) → OfOption IsDer a → OfOption (Fits AreAttributes) a
+    → (v : Option SignedAttributes) × (a ≡ option_map signed_attributes v)
 signed_value None der fits = (None, refl)
 signed_value (Some e) der fits = (Some (record { element = record { element = e; der = der }; list = fits.0; are = ∣ fits.1 ∣₁ }), refl)
 
@@ -165,7 +179,8 @@ last_der None der = tt
 last_der (Some e) der = der.0
 
 -- the value of fields whose unsigned attributes are those of a value
-signer_with : (e : DerElement) (f : SignerElements) (u : Option (List UnsignedAttribute)) → IsDer e → IsSignerOf e f → f.unsigned_attrs ≡ option_map (list_element 0xA1 unsigned_attribute) u → (s : SignerInfo) × (e ≡ signer_info s)
+signer_with : (e : DerElement) (f : SignerElements) (u : Option (List UnsignedAttribute)) → IsDer e → IsSignerOf e f
+    → f.unsigned_attrs ≡ option_map (list_element 0xA1 unsigned_attribute) u → (s : SignerInfo) × (e ≡ signer_info s)
 signer_with e f u der of unsigned =
     let kids = inside 0x30 e (signer_kids f) der of.is in
     let signed = signed_value f.signed_attrs (option_der f.signed_attrs (signer_tail f) kids.1.1.1).0 of.fields.signed_attrs in
@@ -226,7 +241,8 @@ level_of_signer e s is =
       };
     })
 
-with_level : (e : DerElement) (f : SignerElements) (u : Option (List UnsignedAttribute)) → f.unsigned_attrs ≡ option_map (list_element 0xA1 unsigned_attribute) u → IsSignerOf e f → ∥ IsSignerInfo e ∥₁
+with_level : (e : DerElement) (f : SignerElements) (u : Option (List UnsignedAttribute))
+    → f.unsigned_attrs ≡ option_map (list_element 0xA1 unsigned_attribute) u → IsSignerOf e f → ∥ IsSignerInfo e ∥₁
 with_level e f None is of = ∣ Bare of is ∣₁
 with_level e f (Some u) is of = ∥∥₁_map (unsigned_of_values u) (λ each. WithUnsigned of is each)
 
@@ -260,20 +276,23 @@ choices_of (k ∷ kept) =
     let others = choices_of kept in
     (c.0 ∷ others.0, ap (λ x. x ∷ elements_of_kept kept) c.1 ∙ ap (λ xs. certificate_choice c.0 ∷ xs) others.1)
 
-certificates_of : (a : Option DerElement) → OfOption IsDer a → OfOption (IsConstructed 0xA0) a → (v : Option (List CertificateChoices)) × (a ≡ option_map (list_element 0xA0 certificate_choice) v)
+certificates_of : (a : Option DerElement) → OfOption IsDer a → OfOption (IsConstructed 0xA0) a
+    → (v : Option (List CertificateChoices)) × (a ≡ option_map (list_element 0xA0 certificate_choice) v)
 certificates_of None der is = (None, refl)
 certificates_of (Some e) der is =
     let kept = keep_all is.0 (inside 0xA0 e is.0 der is.1) in
     let cs = choices_of kept.0 in
     (Some cs.0, ap Some (is.1 ∙ ap (λ k. Constructed 0xA0 (row k)) (kept.1 ∙ cs.1)))
 
-crls_of : (a : Option DerElement) → OfOption IsDer a → OfOption (IsConstructed 0xA1) a → (v : Option (List KeptElement)) × (a ≡ option_map (list_element 0xA1 element_of_kept) v)
+crls_of : (a : Option DerElement) → OfOption IsDer a → OfOption (IsConstructed 0xA1) a
+    → (v : Option (List KeptElement)) × (a ≡ option_map (list_element 0xA1 element_of_kept) v)
 crls_of None der is = (None, refl)
 crls_of (Some e) der is =
     let kept = keep_all is.0 (inside 0xA1 e is.0 der is.1) in
     (Some kept.0, ap Some (is.1 ∙ ap (λ k. Constructed 0xA1 (row k)) kept.1))
 
-data_der : (e : DerElement) (f : SignedDataElements) → IsDer e → IsSignedDataOf e f → OfOption IsDer f.certificates × OfOption IsDer f.crls × IsDer f.signers_infos
+data_der : (e : DerElement) (f : SignedDataElements) → IsDer e → IsSignedDataOf e f
+    → OfOption IsDer f.certificates × OfOption IsDer f.crls × IsDer f.signers_infos
 data_der e f der of =
     let kids = inside 0x30 e (data_kids f) der of.is in
     let first = option_der f.certificates (data_tail f) kids.1.1.1 in
@@ -320,7 +339,8 @@ level_of_data e d is = record {
   is = is;
   fields = record {
     version = (d.version, refl);
-    digest_algorithms = (d.digest_algorithms, list_printed algorithm_identifier 0x31 (list_element 0x31 algorithm_identifier d.digest_algorithms) d.digest_algorithms refl);
+    digest_algorithms =
+        (d.digest_algorithms, list_printed algorithm_identifier 0x31 (list_element 0x31 algorithm_identifier d.digest_algorithms) d.digest_algorithms refl);
     content_info = (d.content_info, refl);
     certificates = certificates_held d.certificates;
     crls = crls_held d.crls;
@@ -356,26 +376,32 @@ no_value p none = ∥∥₁_elim p (λ x y. absurd x) none
 
 -- ---- members at an index
 
-signer_at_place : (items : List KeptElement) (place : ℕ) (kept : KeptElement) → slice_get items place ≡ Some kept → AreSignerInfos (elements_of_kept items) → IsSignerInfo kept.element
+signer_at_place : (items : List KeptElement) (place : ℕ) (kept : KeptElement) → slice_get items place ≡ Some kept → AreSignerInfos (elements_of_kept items)
+    → IsSignerInfo kept.element
 signer_at_place [] place kept e all = absurd cc
 signer_at_place (x ∷ items) zero kept e all =
     let same : x ≡ kept = cc in
     subst (λ (k : KeptElement). IsSignerInfo k.element) same (first_signer (elements_of_kept (x ∷ items)) all x.element (elements_of_kept items) refl).0
-signer_at_place (x ∷ items) (suc place) kept e all = signer_at_place items place kept e (first_signer (elements_of_kept (x ∷ items)) all x.element (elements_of_kept items) refl).1
+signer_at_place (x ∷ items) (suc place) kept e all =
+    signer_at_place items place kept e (first_signer (elements_of_kept (x ∷ items)) all x.element (elements_of_kept items) refl).1
 
-pkcs7_at_place : (items : List KeptElement) (place : ℕ) (kept : KeptElement) → slice_get items place ≡ Some kept → ArePkcs7s (elements_of_kept items) → IsPkcs7 kept.element
+pkcs7_at_place : (items : List KeptElement) (place : ℕ) (kept : KeptElement) → slice_get items place ≡ Some kept → ArePkcs7s (elements_of_kept items)
+    → IsPkcs7 kept.element
 pkcs7_at_place [] place kept e all = absurd cc
 pkcs7_at_place (x ∷ items) zero kept e all =
     let same : x ≡ kept = cc in
     subst (λ (k : KeptElement). IsPkcs7 k.element) same (first_pkcs7 (elements_of_kept (x ∷ items)) all x.element (elements_of_kept items) refl).0
-pkcs7_at_place (x ∷ items) (suc place) kept e all = pkcs7_at_place items place kept e (first_pkcs7 (elements_of_kept (x ∷ items)) all x.element (elements_of_kept items) refl).1
+pkcs7_at_place (x ∷ items) (suc place) kept e all =
+    pkcs7_at_place items place kept e (first_pkcs7 (elements_of_kept (x ∷ items)) all x.element (elements_of_kept items) refl).1
 
 -- a member can be read
-pub signer_reads : (v : SignerValues) (place : ℕ) (kept : KeptElement) → slice_get v.items place ≡ Some kept → ((s : SignerInfo) → kept.element ≡ signer_info s → ⊥) → ⊥
+pub signer_reads : (v : SignerValues) (place : ℕ) (kept : KeptElement) → slice_get v.items place ≡ Some kept
+    → ((s : SignerInfo) → kept.element ≡ signer_info s → ⊥) → ⊥
 signer_reads v place kept e none =
     no_value v.all (λ all. let s = value_of_signer kept.element kept.der (signer_at_place v.items place kept e all) in none s.0 s.1)
 
-pub token_reads : (v : TokenValues) (place : ℕ) (kept : KeptElement) → slice_get v.items place ≡ Some kept → ((p : Pkcs7Certificate) → kept.element ≡ pkcs7 p → ⊥) → ⊥
+pub token_reads : (v : TokenValues) (place : ℕ) (kept : KeptElement) → slice_get v.items place ≡ Some kept
+    → ((p : Pkcs7Certificate) → kept.element ≡ pkcs7 p → ⊥) → ⊥
 token_reads v place kept e none =
     no_value v.all (λ all. let p = value_of_pkcs7 kept.element kept.der (pkcs7_at_place v.items place kept e all) in none p.0 p.1)
 

@@ -13,7 +13,8 @@ use Rattle.cms_types.specs.SignerElements.{SignerElements}
 use Rattle.cms_types.specs.SignedDataElements.{SignedDataElements}
 use Rattle.cms_types.specs.Pkcs7Elements.{pkcs7_of}
 use Rattle.cms_types.specs.Levels.{IsSignerOf, IsSignedDataOf, IsUnsignedOf}
-use Rattle.cms_types.specs.Signers.{IsSignerInfo, Bare, WithUnsigned, IsUnsignedAttribute, Counter, MsCounter, Any, IsSignedData, Signed, IsPkcs7, Pkcs7, AreSignerInfos, NoSigners, MoreSigners, AreUnsignedAttributes, NoUnsigned, MoreUnsigned, ArePkcs7s, NoPkcs7s, MorePkcs7s}
+use Rattle.cms_types.specs.Signers.{IsSignerInfo, Bare, WithUnsigned, IsUnsignedAttribute, Counter, MsCounter, Any, IsSignedData, Signed, IsPkcs7, Pkcs7}
+use Rattle.cms_types.specs.Signers.{AreSignerInfos, NoSigners, MoreSigners, AreUnsignedAttributes, NoUnsigned, MoreUnsigned, ArePkcs7s, NoPkcs7s, MorePkcs7s}
 use Rattle.cms_types.specs.Facts.SignerElements.{determined_fields, determined_data, same_signer, same_data}
 
 pub same_row : (tag : ℕ) (a b : List DerElement) → Constructed tag (row a) ≡ Constructed tag (row b) → a ≡ b
@@ -21,14 +22,16 @@ same_row tag a b e = same_kids (Constructed tag (row a)) tag tag a b refl e
 
 -- ---- several
 
-pub first_signer : (all : List DerElement) → AreSignerInfos all → (kid : DerElement) (rest : List DerElement) → all ≡ kid ∷ rest → IsSignerInfo kid × AreSignerInfos rest
+pub first_signer : (all : List DerElement) → AreSignerInfos all → (kid : DerElement) (rest : List DerElement) → all ≡ kid ∷ rest
+    → IsSignerInfo kid × AreSignerInfos rest
 first_signer all NoSigners kid rest e = absurd cc
 first_signer all (MoreSigners {kid = k} {kids = ks} one more) kid rest e =
     let same : k ≡ kid = cc in
     let same' : ks ≡ rest = cc in
     (subst IsSignerInfo same one, subst AreSignerInfos same' more)
 
-pub first_unsigned : (all : List DerElement) → AreUnsignedAttributes all → (kid : DerElement) (rest : List DerElement) → all ≡ kid ∷ rest → IsUnsignedAttribute kid × AreUnsignedAttributes rest
+pub first_unsigned : (all : List DerElement) → AreUnsignedAttributes all → (kid : DerElement) (rest : List DerElement) → all ≡ kid ∷ rest
+    → IsUnsignedAttribute kid × AreUnsignedAttributes rest
 first_unsigned all NoUnsigned kid rest e = absurd cc
 first_unsigned all (MoreUnsigned {kid = k} {kids = ks} one more) kid rest e =
     let same : k ≡ kid = cc in
@@ -47,7 +50,8 @@ first_pkcs7 all (MorePkcs7s {kid = k} {kids = ks} one more) kid rest e =
 pub one_signer : (e : DerElement) (f g : SignerElements) → IsSignerOf e f → IsSignerOf e g → f ≡ g
 one_signer e f g p q = same_signer f g (determined_fields f p.fields) (determined_fields g q.fields) (sym p.is ∙ q.is)
 
-pub signer_unsigned : (e : DerElement) (f : SignerElements) (attributes : List DerElement) → IsSignerInfo e → IsSignerOf e f → f.unsigned_attrs ≡ Some (Constructed 0xA1 (row attributes)) → AreUnsignedAttributes attributes
+pub signer_unsigned : (e : DerElement) (f : SignerElements) (attributes : List DerElement) → IsSignerInfo e → IsSignerOf e f
+    → f.unsigned_attrs ≡ Some (Constructed 0xA1 (row attributes)) → AreUnsignedAttributes attributes
 signer_unsigned e f attributes (Bare {f = g} of none) there is =
     let same : f.unsigned_attrs ≡ g.unsigned_attrs = ap (λ (h : SignerElements). h.unsigned_attrs) (one_signer e f g there of) in
     absurd cc
@@ -89,7 +93,8 @@ ms_counter_values e a (Any {values = b} of) there = let no = (unsigned_once e ki
 pub one_data : (e : DerElement) (f g : SignedDataElements) → IsSignedDataOf e f → IsSignedDataOf e g → f ≡ g
 one_data e f g p q = same_data f g (determined_data f p.fields) (determined_data g q.fields) (sym p.is ∙ q.is)
 
-pub data_signers : (e : DerElement) (f : SignedDataElements) (signers : List DerElement) → IsSignedData e → IsSignedDataOf e f → f.signers_infos ≡ set signers → AreSignerInfos signers
+pub data_signers : (e : DerElement) (f : SignedDataElements) (signers : List DerElement) → IsSignedData e → IsSignedDataOf e f → f.signers_infos ≡ set signers
+    → AreSignerInfos signers
 data_signers e f signers (Signed {f = g} {signers = b} of held each) there is =
     let same : f.signers_infos ≡ g.signers_infos = ap (λ (h : SignedDataElements). h.signers_infos) (one_data e f g there of) in
     let both : set b ≡ set signers = sym held ∙ sym same ∙ is in
@@ -100,5 +105,6 @@ pkcs7_level e (Pkcs7 {signed_data = d} is held) = (d, is)
 
 -- ---- how many elements there are
 
-pub first_count : (all : List DerElement) (kid : DerElement) (rest : List DerElement) → all ≡ kid ∷ rest → elements_count (row all) ≡ elements_count (row (kid ∷ rest))
+pub first_count : (all : List DerElement) (kid : DerElement) (rest : List DerElement) → all ≡ kid ∷ rest
+    → elements_count (row all) ≡ elements_count (row (kid ∷ rest))
 first_count all kid rest e = ap (λ k. elements_count (row k)) e

@@ -40,26 +40,35 @@ kept_are es kept each = each_written element_of_kept es kept each
 
 -- ---- refusals
 
-pub no_level : (e : DerElement) (a : UnsignedAttribute) → e ≡ unsigned_attribute a → ((kind : UnsignedKind) (values : List DerElement) → IsUnsignedOf e kind values → ⊥) → ⊥
+pub no_level : (e : DerElement) (a : UnsignedAttribute) → e ≡ unsigned_attribute a
+    → ((kind : UnsignedKind) (values : List DerElement) → IsUnsignedOf e kind values → ⊥) → ⊥
 no_level e a is none = no_value (unsigned_of_value e a is) (λ u. let level = unsigned_level e u in none level.0 level.1 level.2)
 
-pub no_counter : (e : DerElement) (kind : UnsignedKind) (values : List DerElement) (a : UnsignedAttribute) → e ≡ unsigned_attribute a → kind ≡ kinds.CounterSign → IsUnsignedOf e kind values → (AreSignerInfos values → ⊥) → ⊥
-no_counter e kind values a is named of none = no_value (unsigned_of_value e a is) (λ u. none (counter_values e values u (subst (λ (k : UnsignedKind). IsUnsignedOf e k values) named of)))
+pub no_counter : (e : DerElement) (kind : UnsignedKind) (values : List DerElement) (a : UnsignedAttribute) → e ≡ unsigned_attribute a → kind ≡ kinds.CounterSign
+    → IsUnsignedOf e kind values → (AreSignerInfos values → ⊥) → ⊥
+no_counter e kind values a is named of none =
+    no_value (unsigned_of_value e a is) (λ u. none (counter_values e values u (subst (λ (k : UnsignedKind). IsUnsignedOf e k values) named of)))
 
-pub no_ms_counter : (e : DerElement) (kind : UnsignedKind) (values : List DerElement) (a : UnsignedAttribute) → e ≡ unsigned_attribute a → kind ≡ kinds.MsCounterSign → IsUnsignedOf e kind values → (ArePkcs7s values → ⊥) → ⊥
-no_ms_counter e kind values a is named of none = no_value (unsigned_of_value e a is) (λ u. none (ms_counter_values e values u (subst (λ (k : UnsignedKind). IsUnsignedOf e k values) named of)))
+pub no_ms_counter : (e : DerElement) (kind : UnsignedKind) (values : List DerElement) (a : UnsignedAttribute) → e ≡ unsigned_attribute a
+    → kind ≡ kinds.MsCounterSign → IsUnsignedOf e kind values → (ArePkcs7s values → ⊥) → ⊥
+no_ms_counter e kind values a is named of none =
+    no_value (unsigned_of_value e a is) (λ u. none (ms_counter_values e values u (subst (λ (k : UnsignedKind). IsUnsignedOf e k values) named of)))
 
 -- ---- what is read
 
-pub counter_read : (e : DerElement) (kind : UnsignedKind) (values : List DerElement) (kept : List KeptElement) → kind ≡ kinds.CounterSign → IsUnsignedOf e kind values → AreEach is_kept values kept → e ≡ attribute_of COUNTERSIGNATURE.now (elements_of_kept kept)
+pub counter_read : (e : DerElement) (kind : UnsignedKind) (values : List DerElement) (kept : List KeptElement) → kind ≡ kinds.CounterSign
+    → IsUnsignedOf e kind values → AreEach is_kept values kept → e ≡ attribute_of COUNTERSIGNATURE.now (elements_of_kept kept)
 counter_read e kind values kept named of each =
     of_counter e values (subst (λ (k : UnsignedKind). IsUnsignedOf e k values) named of) ∙ ap (attribute_of COUNTERSIGNATURE.now) (kept_are values kept each)
 
-pub ms_counter_read : (e : DerElement) (kind : UnsignedKind) (values : List DerElement) (kept : List KeptElement) → kind ≡ kinds.MsCounterSign → IsUnsignedOf e kind values → AreEach is_kept values kept → e ≡ attribute_of RFC3161_COUNTER_SIGN.now (elements_of_kept kept)
+pub ms_counter_read : (e : DerElement) (kind : UnsignedKind) (values : List DerElement) (kept : List KeptElement) → kind ≡ kinds.MsCounterSign
+    → IsUnsignedOf e kind values → AreEach is_kept values kept → e ≡ attribute_of RFC3161_COUNTER_SIGN.now (elements_of_kept kept)
 ms_counter_read e kind values kept named of each =
-    of_ms_counter e values (subst (λ (k : UnsignedKind). IsUnsignedOf e k values) named of) ∙ ap (attribute_of RFC3161_COUNTER_SIGN.now) (kept_are values kept each)
+    of_ms_counter e values (subst (λ (k : UnsignedKind). IsUnsignedOf e k values) named of)
+    ∙ ap (attribute_of RFC3161_COUNTER_SIGN.now) (kept_are values kept each)
 
-pub other_read : (e ty : DerElement) (values : List DerElement) (id : ObjectIdentifier) (kept : List KeptElement) → e ≡ sequence (ty ∷ set values ∷ []) → ty ≡ object_identifier id → AreEach is_kept values kept → e ≡ attribute_of (identifier_contents id) (elements_of_kept kept)
+pub other_read : (e ty : DerElement) (values : List DerElement) (id : ObjectIdentifier) (kept : List KeptElement) → e ≡ sequence (ty ∷ set values ∷ [])
+    → ty ≡ object_identifier id → AreEach is_kept values kept → e ≡ attribute_of (identifier_contents id) (elements_of_kept kept)
 other_read e ty values id kept is spelled each =
     is ∙ ap (λ (t : DerElement). sequence (t ∷ set values ∷ [])) spelled ∙ ap (attribute_of (identifier_contents id)) (kept_are values kept each)
 

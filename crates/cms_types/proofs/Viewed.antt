@@ -43,7 +43,8 @@ bit_of : (tag : ℕ) (e : DerElement) → form_bit tag ≡ 1 → IsConstructed t
 bit_of tag e bit is = ap (λ (x : DerElement). form_bit (tag_of x)) is.1 ∙ bit
 
 pub algorithms_bit : (f : SignedDataElements) → Viewed f → form_bit (tag_of f.digest_algorithms) ≡ 1
-algorithms_bit f fits = ∥∥₁_elim fits (bit_prop f.digest_algorithms) (λ h. bit_of 0x31 f.digest_algorithms refl (h.0.digest_algorithms.1.kids, h.0.digest_algorithms.1.holds))
+algorithms_bit f fits =
+    ∥∥₁_elim fits (bit_prop f.digest_algorithms) (λ h. bit_of 0x31 f.digest_algorithms refl (h.0.digest_algorithms.1.kids, h.0.digest_algorithms.1.holds))
 
 pub signers_bit : (f : SignedDataElements) → Viewed f → form_bit (tag_of f.signers_infos) ≡ 1
 signers_bit f fits = ∥∥₁_elim fits (bit_prop f.signers_infos) (λ h. bit_of 0x31 f.signers_infos refl h.0.signers_infos)
@@ -73,23 +74,27 @@ pkcs7_once a b e = cc
 inside_of : (e inner : DerElement) (p : Pkcs7Certificate) → e ≡ pkcs7_of inner → e ≡ pkcs7 p → inner ≡ signed_data p.signed_data
 inside_of e inner p is spelled = pkcs7_once inner (signed_data p.signed_data) (sym is ∙ spelled)
 
-pub no_data_fields : (e inner : DerElement) (p : Pkcs7Certificate) → e ≡ pkcs7_of inner → e ≡ pkcs7 p → ((f : SignedDataElements) → IsSignedDataOf inner f → ⊥) → ⊥
+pub no_data_fields : (e inner : DerElement) (p : Pkcs7Certificate) → e ≡ pkcs7_of inner → e ≡ pkcs7 p
+    → ((f : SignedDataElements) → IsSignedDataOf inner f → ⊥) → ⊥
 no_data_fields e inner p is spelled none = none (signed_data_elements p.signed_data) (level_of_data inner p.signed_data (inside_of e inner p is spelled))
 
 pub not_signers : (e inner : DerElement) (f : SignedDataElements) (p : Pkcs7Certificate) → e ≡ pkcs7_of inner → e ≡ pkcs7 p → IsSignedDataOf inner f
     → ((signers : List DerElement) → IsSetOfSigners f.signers_infos signers → ⊥) → ⊥
 not_signers e inner f p is spelled of none =
     let set_of = of.fields.signers_infos in
-    no_value (data_of_value inner p.signed_data (inside_of e inner p is spelled)) (λ held. none set_of.0 (set_of.1, data_signers inner f set_of.0 held of set_of.1))
+    no_value (data_of_value inner p.signed_data (inside_of e inner p is spelled))
+    (λ held. none set_of.0 (set_of.1, data_signers inner f set_of.0 held of set_of.1))
 
 -- the level and its signers make signed data
 pub data_held : (inner : DerElement) (f : SignedDataElements) → IsSignedDataOf inner f → Fits IsSetOfSigners f.signers_infos → IsSignedData inner
 data_held inner f of held = Signed of held.1.0 held.1.1
 
-pub viewed_value : (inner : DerElement) (f : SignedDataElements) → IsSignedDataOf inner f → IsSignedData inner → AreSignedDataFields f × IsSignedData (signed_data_of f)
+pub viewed_value : (inner : DerElement) (f : SignedDataElements) → IsSignedDataOf inner f → IsSignedData inner
+    → AreSignedDataFields f × IsSignedData (signed_data_of f)
 viewed_value inner f of held = (of.fields, subst IsSignedData of.is held)
 
-pub read_value : (e inner : DerElement) (f : SignedDataElements) → IsDer inner → e ≡ pkcs7_of inner → IsSignedDataOf inner f → IsSignedData inner → (e ≡ pkcs7_of (signed_data_of f)) × ((p : Pkcs7Certificate) × (e ≡ pkcs7 p))
+pub read_value : (e inner : DerElement) (f : SignedDataElements) → IsDer inner → e ≡ pkcs7_of inner → IsSignedDataOf inner f → IsSignedData inner
+    → (e ≡ pkcs7_of (signed_data_of f)) × ((p : Pkcs7Certificate) × (e ≡ pkcs7 p))
 read_value e inner f der is of held =
     let d = value_of_data inner der held in
     (is ∙ ap pkcs7_of of.is, (record { signed_data = d.0 }, is ∙ ap pkcs7_of d.1))

@@ -30,7 +30,8 @@ pub same_issuers : (a b : Option KeptElement) → IsTrue (option_eq (λ (x y : K
 same_issuers a b = options_same (λ (x y : KeptElement). bytes_eq (encoding x.element) (encoding y.element)) kept_same a b
 
 -- if the other fields are the same, the number decides
-pub by_number : (a b : AuthorityKeyIdentifier) (t : Bool) → a.key_identifier ≡ b.key_identifier → a.issuer ≡ b.issuer → t ≡ option_eq bytes_eq a.serial_number b.serial_number → IsTrue t ↔ (a ≡ b)
+pub by_number : (a b : AuthorityKeyIdentifier) (t : Bool) → a.key_identifier ≡ b.key_identifier → a.issuer ≡ b.issuer
+    → t ≡ option_eq bytes_eq a.serial_number b.serial_number → IsTrue t ↔ (a ≡ b)
 by_number a b t key issuer test =
     let same = same_octets a.serial_number b.serial_number in
     (λ w. same_authority a b key issuer (same.0 (sym test ∙ w)), λ e. test ∙ same.1 (ap (λ (v : AuthorityKeyIdentifier). v.serial_number) e))

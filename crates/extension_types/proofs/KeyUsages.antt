@@ -18,17 +18,20 @@ below_8 P a b c d e f g h (suc (suc (suc (suc (suc (suc (suc zero))))))) lt = h
 below_8 P a b c d e f g h (suc (suc (suc (suc (suc (suc (suc (suc n)))))))) lt = absurd (omega (arith, lt))
 
 abbrev turned : ℕ → ℕ
-turned o = (((((((0 * 2 + o % 2) * 2 + o / 2 % 2) * 2 + o / 2 / 2 % 2) * 2 + o / 2 / 2 / 2 % 2) * 2 + o / 2 / 2 / 2 / 2 % 2) * 2 + o / 2 / 2 / 2 / 2 / 2 % 2) * 2 + o / 2 / 2 / 2 / 2 / 2 / 2 % 2) * 2 + o / 2 / 2 / 2 / 2 / 2 / 2 / 2 % 2
+turned o = (((((((0 * 2 + o % 2) * 2 + o / 2 % 2) * 2 + o / 2 / 2 % 2) * 2 + o / 2 / 2 / 2 % 2) * 2 + o / 2 / 2 / 2 / 2 % 2) * 2 + o / 2 / 2 / 2 / 2 / 2 % 2)
+    * 2 + o / 2 / 2 / 2 / 2 / 2 / 2 % 2) * 2 + o / 2 / 2 / 2 / 2 / 2 / 2 / 2 % 2
 
 is_turned : (o : ℕ) → reverse_bits w8 o ≡ turned o
 unfolding reverse_bits_onto
 is_turned o = refl
 
 turned_bit : (o n : ℕ) → n < 8 → reverse_bits w8 o / 2 ^ (7 - n) % 2 ≡ o / 2 ^ n % 2
-turned_bit o n lt = ap (λ (t : ℕ). t / 2 ^ (7 - n) % 2) (is_turned o) ∙ below_8 (λ m. turned o / 2 ^ (7 - m) % 2 ≡ o / 2 ^ m % 2) (omega arith) (omega arith) (omega arith) (omega arith) (omega arith) (omega arith) (omega arith) (omega arith) n lt
+turned_bit o n lt = ap (λ (t : ℕ). t / 2 ^ (7 - n) % 2) (is_turned o) ∙ below_8 (λ m. turned o / 2 ^ (7 - m) % 2 ≡ o / 2 ^ m % 2) (omega arith) (omega arith)
+    (omega arith) (omega arith) (omega arith) (omega arith) (omega arith) (omega arith) n lt
 
 low_bit : (flags n : ℕ) → n < 8 → flags % 256 / 2 ^ n % 2 ≡ flags / 2 ^ n % 2
-low_bit flags = below_8 (λ n. flags % 256 / 2 ^ n % 2 ≡ flags / 2 ^ n % 2) (omega arith) (omega arith) (omega arith) (omega arith) (omega arith) (omega arith) (omega arith) (omega arith)
+low_bit flags = below_8 (λ n. flags % 256 / 2 ^ n % 2 ≡ flags / 2 ^ n % 2) (omega arith) (omega arith) (omega arith) (omega arith) (omega arith) (omega arith)
+    (omega arith) (omega arith)
 
 -- the first eight flags, the lowest in the highest bit
 abbrev pub HasFirst : ℕ → ℕ → Type 0
@@ -54,14 +57,16 @@ two_bit first second = below_8 (λ n. octet_bit (first ∷ second ∷ []) n ≡ 
 
 -- the second octet is 80, of which only the first bit is 1
 second_bit : (first : ℕ) (n : ℕ) → n < 8 → octet_bit (first ∷ 128 ∷ []) (8 + n) ≡ 1 → n ≡ 0
-second_bit first = below_8 (λ n. octet_bit (first ∷ 128 ∷ []) (8 + n) ≡ 1 → n ≡ 0) (λ e. refl) (λ e. absurd cc) (λ e. absurd cc) (λ e. absurd cc) (λ e. absurd cc) (λ e. absurd cc) (λ e. absurd cc) (λ e. absurd cc)
+second_bit first = below_8 (λ n. octet_bit (first ∷ 128 ∷ []) (8 + n) ≡ 1 → n ≡ 0) (λ e. refl) (λ e. absurd cc) (λ e. absurd cc) (λ e. absurd cc)
+    (λ e. absurd cc) (λ e. absurd cc) (λ e. absurd cc) (λ e. absurd cc)
 
 -- ---- key usages
 
 no_bit : (n : ℕ) → n < 8 → 0 / 2 ^ (7 - n) % 2 ≡ 0
 no_bit = below_8 (λ n. 0 / 2 ^ (7 - n) % 2 ≡ 0) refl refl refl refl refl refl refl refl
 
-pub no_usage : (flags first : ℕ) (bits : BitString) → (bits.unused ≡ 0) × (bits.payload ≡ []) → flags / 256 % 2 ≡ 0 → HasFirst flags first → first ≡ 0 → IsUsageOf flags bits
+pub no_usage : (flags first : ℕ) (bits : BitString) → (bits.unused ≡ 0) × (bits.payload ≡ []) → flags / 256 % 2 ≡ 0 → HasFirst flags first → first ≡ 0
+    → IsUsageOf flags bits
 no_usage flags first bits is high octet zeros =
     let none : length bits.payload ≡ 0 = ap length is.1 in
     record {
@@ -78,7 +83,8 @@ no_usage flags first bits is high octet zeros =
           | inr ge ↦ let eight : n ≡ 8 = omega (arith, le, ge) in omega (arith, high, subst (λ (m : ℕ). flags / 2 ^ m % 2 ≡ 1) eight one)
         ]
 
-pub one_octet : (flags first : ℕ) (bits : BitString) → (bits.unused ≡ trailing_zeros w8 first) × (bits.payload ≡ first ∷ []) → flags / 256 % 2 ≡ 0 → HasFirst flags first → 0 < first → first < 2 ^ 8 → IsUsageOf flags bits
+pub one_octet : (flags first : ℕ) (bits : BitString) → (bits.unused ≡ trailing_zeros w8 first) × (bits.payload ≡ first ∷ []) → flags / 256 % 2 ≡ 0
+    → HasFirst flags first → 0 < first → first < 2 ^ 8 → IsUsageOf flags bits
 one_octet flags first bits is high octet some fits =
     let one : length bits.payload ≡ 1 = ap length is.1 in
     let lowest = bit_at-trailing_zeros w8 first some fits in
@@ -107,11 +113,16 @@ one_octet flags first bits is high octet some fits =
       padded = λ n lt set. has n (omega (arith, one, lt)) set;
     }
 
-pub two_octets : (flags first : ℕ) (bits : BitString) → (bits.unused ≡ 7) × (bits.payload ≡ first ∷ 128 ∷ []) → flags / 256 % 2 ≡ 1 → HasFirst flags first → IsUsageOf flags bits
+pub two_octets : (flags first : ℕ) (bits : BitString) → (bits.unused ≡ 7) × (bits.payload ≡ first ∷ 128 ∷ []) → flags / 256 % 2 ≡ 1 → HasFirst flags first
+    → IsUsageOf flags bits
 two_octets flags first bits is high octet =
     let two : length bits.payload ≡ 2 = ap length is.1 in
-    let bit : (n : ℕ) → n < 8 → octet_bit bits.payload n ≡ flags / 2 ^ n % 2 = λ n lt. ap (λ (p : List ℕ). octet_bit p n) is.1 ∙ two_bit first 128 n lt ∙ octet n lt in
-    let last_bit : (n : ℕ) → n ≡ 8 → HasBit bits n = λ n at. record { within = omega (arith, two, is.0, at); one = ap (λ (p : List ℕ). octet_bit p n) is.1 ∙ ap (λ (m : ℕ). octet_bit (first ∷ 128 ∷ []) m) at } in
+    let bit : (n : ℕ) → n < 8 → octet_bit bits.payload n ≡ flags / 2 ^ n % 2 =
+    λ n lt. ap (λ (p : List ℕ). octet_bit p n) is.1 ∙ two_bit first 128 n lt ∙ octet n lt in
+    let last_bit : (n : ℕ) → n ≡ 8 → HasBit bits n = λ n at. record {
+      within = omega (arith, two, is.0, at);
+      one = ap (λ (p : List ℕ). octet_bit p n) is.1 ∙ ap (λ (m : ℕ). octet_bit (first ∷ 128 ∷ []) m) at;
+    } in
     let low : (n : ℕ) → HasBit bits n → n ≤ 8 = λ n h. omega (arith, two, is.0, h.within) in
     record {
       flagged = λ n le.
@@ -126,7 +137,8 @@ two_octets flags first bits is high octet =
             | inl below ↦ record { within = omega (arith, two, is.0, below); one = set }
             | inr ge ↦
                 let at : 8 + (n - 8) ≡ n = omega (arith, ge) in
-                let zero_there = second_bit first (n - 8) (omega (arith, two, lt, ge)) (ap (λ (m : ℕ). octet_bit (first ∷ 128 ∷ []) m) at ∙ ap (λ (p : List ℕ). octet_bit p n) (sym is.1) ∙ set) in
+                let zero_there = second_bit first (n - 8) (omega (arith, two, lt, ge)) (ap (λ (m : ℕ). octet_bit (first ∷ 128 ∷ []) m) at
+                ∙ ap (λ (p : List ℕ). octet_bit p n) (sym is.1) ∙ set) in
                 last_bit n (omega (arith, ge, zero_there))
           ];
     }

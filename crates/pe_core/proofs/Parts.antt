@@ -1,5 +1,6 @@
 -- The octets that a signature is about are in three parts.
-use Rattle.std.proofs.Common.{◌≡◌, ℕ, suc, ◌+◌, ◌-◌, ◌≤◌, ◌<◌, Bool, true, false, not, ◌&&◌, if◌then◌else◌, nat_le, nat_lt, List, [], ◌∷◌, ◌++◌, length, drop, slice_range, refl, sym, ap, ◌∙◌, arith, length-take, length-drop, append-nil, append_assoc}
+use Rattle.std.proofs.Common.{◌≡◌, ℕ, suc, ◌+◌, ◌-◌, ◌≤◌, ◌<◌, Bool, true, false, not, ◌&&◌, if◌then◌else◌, nat_le, nat_lt, List, [], ◌∷◌}
+use Rattle.std.proofs.Common.{◌++◌, length, drop, slice_range, refl, sym, ap, ◌∙◌, arith, length-take, length-drop, append-nil, append_assoc}
 use Rattle.std.proofs.lemmas.Bool.{lt-ltb, le-leb, lt-leb, le-ltb}
 use Rattle.std.proofs.lemmas.List.{take-append-drop, drop-drop}
 use Rattle.std.proofs.Math.Seq.{drop-length}
@@ -126,7 +127,8 @@ module _ (c e t : ℕ) (checksum_first : c + 4 ≤ e) (entry_first : e + 8 ≤ t
   holds k = not (is_within c 4 k) && (not (is_within e 8 k) && nat_lt k t)
 
   in_head : (k : ℕ) → k < c → holds k ≡ true
-  in_head k h = yes (is_within c 4 k) (is_within e 8 k) (nat_lt k t) (before c 4 k h) (before e 8 k (omega (arith, h, checksum_first))) (lt-ltb k t (omega (arith, h, checksum_first, entry_first)))
+  in_head k h = yes (is_within c 4 k) (is_within e 8 k) (nat_lt k t) (before c 4 k h) (before e 8 k (omega (arith, h, checksum_first)))
+      (lt-ltb k t (omega (arith, h, checksum_first, entry_first)))
 
   in_checksum : (k : ℕ) → c ≤ k → k < c + 4 → holds k ≡ false
   in_checksum k l h = in_first (is_within c 4 k) (is_within e 8 k) (nat_lt k t) (inside c 4 k l h)
@@ -156,7 +158,8 @@ module _ (c e t : ℕ) (checksum_first : c + 4 ≤ e) (entry_first : e + 8 ≤ t
       let second = kept holds octets (c + 4) e checksum_first (omega (arith, entry_first, within)) in_middle
       ∙ ap (λ (xs : List ℕ). middle ++ xs) (skipped holds octets e (e + 8) (omega arith) (omega (arith, entry_first, within)) in_entry ∙ third) in
       kept holds octets 0 c (omega arith) (omega (arith, checksum_first, entry_first, within)) (λ k l h. in_head k h)
-      ∙ ap (λ (xs : List ℕ). head ++ xs) (skipped holds octets c (c + 4) (omega arith) (omega (arith, checksum_first, entry_first, within)) in_checksum ∙ second)
+      ∙ ap (λ (xs : List ℕ). head ++ xs)
+      (skipped holds octets c (c + 4) (omega arith) (omega (arith, checksum_first, entry_first, within)) in_checksum ∙ second)
 
 -- ---- images
 

@@ -2,7 +2,8 @@
 -- Format; Windows Authenticode Portable Executable Signature Format).
 use Rattle.std.specs.Prelude.{◌≡◌, ◌≢◌, ◌⊎◌, ℕ, ◌+◌, ◌≤◌, List, [], ◌∷◌, length}
 use Rattle.der_core.specs.Rules.{Rule}
-use Rattle.pe_core.specs.Fields.{u16_at, u32_at, signature_offset, header_size, header_offset, magic_of, format_of, entry_end, directory_count, entry_offset, table_offset, table_size}
+use Rattle.pe_core.specs.Fields.{u16_at, u32_at, signature_offset, header_size, header_offset, magic_of}
+use Rattle.pe_core.specs.Fields.{format_of, entry_end, directory_count, entry_offset, table_offset, table_size}
 use Rattle.pe_core.specs.declared.error.PeError.{PeError}
 use Rattle.pe_core.specs.declared.error.PeError.TheVariants as errors
 

@@ -8,7 +8,8 @@ use Rattle.x509_core.specs.CertType.{IsOfType}
 use Rattle.x509_core.specs.Chain.{IsLinkedChain, IsPath, last_of}
 use Rattle.x509_core.specs.KeptCertificate.{KeptCertificate}
 use Rattle.x509_core.specs.declared.cert_type.CertType.TheVariants as types
-use Rattle.picky_check.specs.ChainAnswer.{AreKeptCertificates, IsChainAnswer, IsChainJudged, all_checks}
+use Rattle.x509_core.specs.KeptCertificates.{AreKeptCertificates}
+use Rattle.picky_check.specs.ChainAnswer.{IsChainAnswer, IsChainJudged, all_checks}
 use Rattle.picky_check.specs.ChainHeadline.{IsVouchedChain, window_at}
 use Rattle.program_frame.specs.Limits.{IsWholeFile, AreWholeFiles}
 use Rattle.program_frame.specs.ReadFiles.{HandsOut, total_length}

@@ -1,15 +1,13 @@
 -- The result for a certificate with its parents, from their octets.
-use Rattle.std.specs.Prelude.{◌≡◌, ◌⊎◌, ℕ, List, [], ◌∷◌, ◌++◌, length, map, Some, Result, Ok, Err}
+use Rattle.std.specs.Prelude.{◌≡◌, ◌⊎◌, ℕ, List, [], ◌∷◌, length, Some, Result, Ok, Err}
 use Rattle.std.specs.Result.{IsErrAnd}
 use Rattle.asn1_types.specs.declared.generalized_time.GeneralizedTime.{GeneralizedTime}
-use Rattle.der_core.specs.Refusals.{RefusesOctets}
 use Rattle.key_core.specs.Verifying.{Judge}
 use Rattle.key_core.specs.declared.element.Element.TheVariants as elements
-use Rattle.x509_types.specs.Certificate.{IsCertificate}
-use Rattle.x509_core.specs.CertRefusals.{IsUnreadCert}
 use Rattle.x509_core.specs.Chain.{IsAccepted, chain_rules}
 use Rattle.x509_core.specs.Checks.{checks_at, first_checks}
-use Rattle.x509_core.specs.KeptCertificate.{KeptCertificate, kept_octets}
+use Rattle.x509_core.specs.KeptCertificate.{KeptCertificate}
+use Rattle.x509_core.specs.KeptCertificates.{AreKeptCertificates, IsFirstUnread}
 use Rattle.x509_core.specs.Rules.{RefusesCertBy}
 use Rattle.x509_core.specs.declared.error.CertError.{CertError}
 use Rattle.x509_core.specs.declared.validator.ChainChecks.{ChainChecks}
@@ -18,18 +16,6 @@ use Rattle.x509_core.specs.declared.window.DateCheck.TheVariants as dates
 -- all is checked: the validity of each certificate at this moment, the parents, and the root
 abbrev pub all_checks : GeneralizedTime → ChainChecks
 all_checks date = checks_at (dates.Exact date) first_checks
-
--- the octets are those of these certificates
-abbrev pub AreKeptCertificates : List (List ℕ) → List KeptCertificate → Type 0
-AreKeptCertificates octets certificates = map kept_octets certificates ≡ octets
-
--- The error is that of the first octets that aren't a certificate.
-pub record IsFirstUnread (octets : List (List ℕ)) (e : CertError) : Type 0 where
-  pub read : List KeptCertificate
-  pub unread : List ℕ
-  pub others : List (List ℕ)
-  pub are : octets ≡ map kept_octets read ++ unread ∷ others
-  pub refused : IsUnreadCert elements.Certificate (RefusesOctets IsCertificate unread) e
 
 -- The first certificate is accepted with the others, and these are counted; or the error reports
 -- the first broken rule.

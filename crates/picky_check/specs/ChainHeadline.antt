@@ -10,7 +10,7 @@ use Rattle.x509_core.specs.Window.{IsWithinWindow}
 use Rattle.x509_core.specs.declared.cert_type.CertType.TheVariants as types
 use Rattle.x509_core.specs.declared.window.DateCheck.TheVariants as dates
 use Rattle.x509_core.specs.declared.window.Window.{Window}
-use Rattle.picky_check.specs.ChainAnswer.{AreKeptCertificates}
+use Rattle.x509_core.specs.KeptCertificates.{AreKeptCertificates}
 use Rattle.program_frame.specs.Limits.{IsWholeFile, AreWholeFiles}
 use Rattle.picky_check.specs.Report.{parents_line}
 use Rattle.program_frame.specs.ReadFiles.{HandsOut, total_length}

@@ -1,15 +1,14 @@
 //! Validating a certificate with its parents, from their octets.
 
-ghost use Rattle.std.specs.Prelude.{◌≡◌, ◌++◌, ◌∷◌, List, Some, map, IfErr, MatchResult, OnOk};
+ghost use Rattle.std.specs.Prelude.{◌∷◌, Some, map, MatchResult};
 ghost use Rattle.x509_core.specs.Chain.{IsAccepted, chain_rules};
-ghost use Rattle.x509_core.specs.KeptCertificate.{KeptCertificate};
 ghost use Rattle.x509_core.specs.Rules.{RefusesCertBy};
-ghost use Rattle.picky_check.specs.ChainAnswer.{AreKeptCertificates, IsAnswerOver, IsChainAnswer, IsFirstUnread, all_checks};
+ghost use Rattle.picky_check.specs.ChainAnswer.{IsAnswerOver, IsChainAnswer, all_checks};
 
 use names_core::UtcDate;
 use sig_core::Scheme;
 use std::alloc::Global;
-use x509_core::{Cert, CertError};
+use x509_core::{Cert, CertError, read_certificates};
 
 /// Validates a certificate at a date with its parents, the nearest first, all given by their
 /// octets; returns the number of parents. All checks of `CertValidator` are on, the root included.
@@ -38,28 +37,9 @@ fn check_over<S: Scheme>(
     ensures { IsAnswerOver (S.judge scheme.now) date.now checked.now
         (map (λ octets. octets.items) parents.now) result }
 {
-    let mut read = Vec::new(alloc);
-    read_certificates(alloc, parents, &mut read)?;
+    let read = read_certificates(alloc, parents)?;
     accept(alloc, checked, &read, date, scheme)?;
     Ok(read.len())
-}
-
-/// Reads certificates and appends them to those already read.
-fn read_certificates(
-    alloc: Global,
-    octets: &[Vec<u8>],
-    certificates: &mut Vec<Cert>,
-) -> Result<(), CertError>
-    ensures read { OnOk result ((read : List KeptCertificate)
-        × (certificates.new.items ≡ certificates.old.items ++ read)
-        × AreKeptCertificates (map (λ octets. octets.items) octets.now) read) }
-    ensures unread { IfErr result (IsFirstUnread (map (λ octets. octets.items) octets.now)) }
-{
-    let [first, others @ ..] = octets else {
-        return Ok(());
-    };
-    certificates.push(Cert::from_der(alloc, first)?)?;
-    read_certificates(alloc, others, certificates)
 }
 
 /// Validates a certificate with its parents, the nearest first.

@@ -22,7 +22,8 @@ version_is None (Some value) is = absurd is
 version_is (Some element) None is = absurd is
 version_is (Some element) (Some value) is = ap Some is
 
-spelled_list : (element : Option DerElement) (es : Option (List Extension)) → SpellsOption IsExtensions element es → SpellsOption (IsListOf 0x30 IsSpelling) element es
+spelled_list : (element : Option DerElement) (es : Option (List Extension)) → SpellsOption IsExtensions element es
+    → SpellsOption (IsListOf 0x30 IsSpelling) element es
 spelled_list None None is = tt
 spelled_list None (Some es) is = absurd is
 spelled_list (Some element) None is = absurd is

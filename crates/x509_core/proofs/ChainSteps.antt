@@ -30,14 +30,17 @@ grown_chain judge w checked xs x child linked at link =
 pub grown_place : (checked : KeptCertificate) (xs : List (Bor KeptCertificate)) (x : Bor KeptCertificate) → x.now ≡ last_of checked (map lent (xs ++ x ∷ []))
 grown_place checked xs x = sym (ap (last_of checked) (map_more lent xs x) ∙ last_more checked (map lent xs) x.now)
 
-pub grown_count : (xs : List (Bor KeptCertificate)) (x : Bor KeptCertificate) (n m : ℕ) → IsCountFor n (length (map lent xs)) → m ≡ min (n + 1) (2 ^ 16 - 1) → IsCountFor m (length (map lent (xs ++ x ∷ [])))
+pub grown_count : (xs : List (Bor KeptCertificate)) (x : Bor KeptCertificate) (n m : ℕ) → IsCountFor n (length (map lent xs)) → m ≡ min (n + 1) (2 ^ 16 - 1)
+    → IsCountFor m (length (map lent (xs ++ x ∷ [])))
 grown_count xs x n m so_far more =
     let long : length (map lent (xs ++ x ∷ [])) ≡ length (map lent xs) + 1 = ap length (map_more lent xs x) ∙ one_more (map lent xs) x.now in
     omega (arith, so_far, more, long)
 
-pub unlinked : (judge : Judge) (w : Window) (checked : KeptCertificate) (xs : List (Bor KeptCertificate)) (x : Bor KeptCertificate) (child : KeptCertificate) (e : CertError)
+pub unlinked : (judge : Judge) (w : Window) (checked : KeptCertificate) (xs : List (Bor KeptCertificate)) (x : Bor KeptCertificate) (child : KeptCertificate)
+    (e : CertError)
     → IsLinkedChain judge w checked (map lent xs) → child ≡ last_of checked (map lent xs)
-    → RefusesCertBy (link_rules judge w (length (map lent xs)) x.now child) e → OrMemory errors.Memory (IsFirstUnlinked judge w checked (map lent (xs ++ x ∷ []))) e
+    → RefusesCertBy (link_rules judge w (length (map lent xs)) x.now child) e
+    → OrMemory errors.Memory (IsFirstUnlinked judge w checked (map lent (xs ++ x ∷ []))) e
 unlinked judge w checked xs x child e linked at (inl broken) = inl (record {
   before = map lent xs;
   parent = x.now;

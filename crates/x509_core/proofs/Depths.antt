@@ -37,7 +37,8 @@ second_kid x y v w e = cc
 one_is_not_two : (x y z : DerElement) → sequence (x ∷ []) ≡ sequence (y ∷ z ∷ []) → ⊥
 one_is_not_two x y z e = absurd cc
 
-length_once : (k l : List DerElement) (a b : Bool) (m n : ℕ) → IsDefaultFalse k a → IsDefaultFalse l b → sequence (k ++ small_integer m ∷ []) ≡ sequence (l ++ small_integer n ∷ []) → m ≡ n
+length_once : (k l : List DerElement) (a b : Bool) (m n : ℕ) → IsDefaultFalse k a → IsDefaultFalse l b
+    → sequence (k ++ small_integer m ∷ []) ≡ sequence (l ++ small_integer n ∷ []) → m ≡ n
 length_once [] [] a b m n p q e = integer_once m n (one_kid m n e)
 length_once [] (y ∷ []) a b m n p q e = absurd (one_is_not_two (small_integer m) y (small_integer n) e)
 length_once (x ∷ []) [] a b m n p q e = absurd (one_is_not_two (small_integer n) x (small_integer m) (sym e))

@@ -29,7 +29,8 @@ none_before [] after e distinct = tt
 none_before (x ∷ before) after e distinct =
     (λ same. other_behind (identifier_contents x.extn_id) before after e distinct.0 (sym same), none_before before after e distinct.1)
 
-pub first_of_distinct : (oid : List ℕ) (value : ExtensionView) (es before after : List Extension) (e : Extension) → AreDistinct es → es ≡ before ++ e ∷ after → identifier_contents e.extn_id ≡ oid → e.extn_value ≡ value
+pub first_of_distinct : (oid : List ℕ) (value : ExtensionView) (es before after : List Extension) (e : Extension) → AreDistinct es → es ≡ before ++ e ∷ after
+    → identifier_contents e.extn_id ≡ oid → e.extn_value ≡ value
     → HasFirst oid es value
 first_of_distinct oid value es before after e distinct are named valued = record {
   extension = e;

@@ -7,7 +7,8 @@ use Rattle.x509_types.specs.declared.extension.Extension.{Extension}
 pub here : (oid : List ℕ) (all others : List Extension) (e : Extension) → all ≡ e ∷ others → identifier_contents e.extn_id ≡ oid → IsFirstWith oid all e
 here oid all others e are named = record { before = []; after = others; are = are; first = tt; named = named }
 
-pub later : (oid : List ℕ) (all others : List Extension) (x e : Extension) → all ≡ x ∷ others → identifier_contents x.extn_id ≢ oid → IsFirstWith oid others e → IsFirstWith oid all e
+pub later : (oid : List ℕ) (all others : List Extension) (x e : Extension) → all ≡ x ∷ others → identifier_contents x.extn_id ≢ oid → IsFirstWith oid others e
+    → IsFirstWith oid all e
 later oid all others x e are other f = record {
   before = x ∷ f.before;
   after = f.after;
@@ -16,7 +17,8 @@ later oid all others x e are other f = record {
   named = f.named;
 }
 
-pub none_later : (oid : List ℕ) (all others : List Extension) (x : Extension) → all ≡ x ∷ others → identifier_contents x.extn_id ≢ oid → NoneHas oid others → NoneHas oid all
+pub none_later : (oid : List ℕ) (all others : List Extension) (x : Extension) → all ≡ x ∷ others → identifier_contents x.extn_id ≢ oid → NoneHas oid others
+    → NoneHas oid all
 none_later oid all others x are other none = subst (λ (es : List Extension). NoneHas oid es) (sym are) (other, none)
 
 -- a test that fails

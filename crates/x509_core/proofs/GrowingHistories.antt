@@ -28,7 +28,8 @@ module _ {A : Type 0} where
       later (inl found) = inl found
       later (inr (p, q)) = inr (omega (arith, p), q)
 
-module _ (judge : Judge) (history : History) (certificates : List KeptCertificate) (step : IssuingStep) (cert : KeptCertificate) (issued : IsIssued judge history certificates) (next : IsNext judge certificates step cert) where
+module _ (judge : Judge) (history : History) (certificates : List KeptCertificate) (step : IssuingStep) (cert : KeptCertificate)
+    (issued : IsIssued judge history certificates) (next : IsNext judge certificates step cert) where
   abbrev Steps : History
   Steps = history ++ step ∷ []
 
@@ -81,7 +82,8 @@ module _ (judge : Judge) (history : History) (certificates : List KeptCertificat
     where
       by : Both index root.step c → IsSelfIssued c.elements
       by (inl (p, q)) = issued.roots index c (record { step = root.step; is = p; unissued = root.unissued }) q
-      by (inr (p, q)) = subst (λ (x : KeptCertificate). IsSelfIssued x.elements) (sym q) (next.root (ap (λ (s : IssuingStep). s.issuer) (sym p) ∙ root.unissued))
+      by (inr (p, q)) =
+          subst (λ (x : KeptCertificate). IsSelfIssued x.elements) (sym q) (next.root (ap (λ (s : IssuingStep). s.issuer) (sym p) ∙ root.unissued))
 
   old_parent : (issuer : ℕ) (parent : KeptCertificate) → issuer < length history → HasCert Certs issuer parent → HasCert certificates issuer parent
   old_parent issuer parent earlier is = by (old_or_new certificates cert issuer parent is)
@@ -92,7 +94,8 @@ module _ (judge : Judge) (history : History) (certificates : List KeptCertificat
           let none : ⊥ = omega (arith, at, earlier, issued.all) in
           absurd none
 
-  issued_more : (index issuer : ℕ) (parent child : KeptCertificate) → HasIssuer Steps index issuer → HasCert Certs issuer parent → HasCert Certs index child → IsCertifiedBy judge parent.elements child.elements
+  issued_more : (index issuer : ℕ) (parent child : KeptCertificate) → HasIssuer Steps index issuer → HasCert Certs issuer parent → HasCert Certs index child
+      → IsCertifiedBy judge parent.elements child.elements
   issued_more index issuer parent child has is_parent is_child = by (both index has.step child has.is is_child)
     where
       by : Both index has.step child → IsCertifiedBy judge parent.elements child.elements
@@ -105,7 +108,8 @@ module _ (judge : Judge) (history : History) (certificates : List KeptCertificat
           let under : step.issuer ≡ Some issuer = ap (λ (s : IssuingStep). s.issuer) (sym p) ∙ has.issued in
           let found = next.issued issuer under in
           let same : found.0 ≡ parent = same_some found.0 parent (sym found.1 ∙ old_parent issuer parent (earlier_issuer issuer under) is_parent) in
-          subst (λ (x : KeptCertificate). IsCertifiedBy judge parent.elements x.elements) (sym q) (subst (λ (x : KeptCertificate). IsCertifiedBy judge x.elements cert.elements) same found.2)
+          subst (λ (x : KeptCertificate). IsCertifiedBy judge parent.elements x.elements) (sym q)
+          (subst (λ (x : KeptCertificate). IsCertifiedBy judge x.elements cert.elements) same found.2)
 
   pub issued_with_step : IsIssued judge Steps Certs
   issued_with_step = record {

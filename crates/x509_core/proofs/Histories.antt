@@ -1,5 +1,6 @@
 -- Each step of a history has one list of ancestors.
-use Rattle.std.proofs.Common.{◌≡◌, ◌<◌, ◌≤◌, ◌⊎◌, ℕ, zero, suc, ◌+◌, List, [], ◌∷◌, length, get_or, Option, Some, None, inl, inr, refl, sym, ap, subst, ◌∙◌, arith}
+use Rattle.std.proofs.Common.{◌≡◌, ◌<◌, ◌≤◌, ◌⊎◌, ℕ, zero, suc, ◌+◌, List, [], ◌∷◌, length, get_or}
+use Rattle.std.proofs.Common.{Option, Some, None, inl, inr, refl, sym, ap, subst, ◌∙◌, arith}
 use Rattle.std.specs.List.{slice_get}
 use Rattle.std.proofs.lemmas.Option.{slice_get_cases}
 use Rattle.x509_core.specs.History.{IssuingStep, History, HasStep, HasIssuer, IsRootStep, IsOrdered, AreAncestors}
@@ -12,7 +13,8 @@ none_is_some x e = absurd cc
 pub item_at : {A : Type 0} (items : List A) (index : ℕ) → index < length items → (item : A) × (slice_get items index ≡ Some item)
 item_at {A} items index within = by (slice_get_cases items index).1
   where
-    by : ((x : A) × (index < length items) × (slice_get items index ≡ Some x) × (get_or items index x ≡ x)) ⊎ ((length items ≤ index) × (slice_get items index ≡ None)) → (item : A) × (slice_get items index ≡ Some item)
+    by : ((x : A) × (index < length items) × (slice_get items index ≡ Some x) × (get_or items index x ≡ x))
+        ⊎ ((length items ≤ index) × (slice_get items index ≡ None)) → (item : A) × (slice_get items index ≡ Some item)
     by (inl found) = (found.0, found.2)
     by (inr past) =
         let none : ⊥ = omega (arith, within, past.0) in
@@ -42,7 +44,8 @@ abbrev Line : History → ℕ → Type 0
 Line history index = (ancestors : List ℕ) × AreAncestors history index ancestors
 
 -- a root has none, another step those of its issuer and the issuer
-line_with : (history : History) → IsOrdered history → (bound index : ℕ) (step : IssuingStep) → HasStep history index step → ((issuer : ℕ) → issuer < bound → issuer < length history → Line history issuer)
+line_with : (history : History) → IsOrdered history → (bound index : ℕ) (step : IssuingStep) → HasStep history index step
+    → ((issuer : ℕ) → issuer < bound → issuer < length history → Line history issuer)
     → (issuer : Option ℕ) → step.issuer ≡ issuer → index < suc bound → index < length history → Line history index
 line_with history ordered bound index step is lines None unissued below within = ([], (tt, record { step = step; is = is; unissued = unissued }))
 line_with history ordered bound index step is lines (Some issuer) issued below within =

@@ -32,7 +32,8 @@ module _ (start day end late : GeneralizedTime) (begun : IsEarlier day start →
   unlimited limit e = absurd cc
 
   -- one without a path length is allowed with any number
-  unlimited_allowed : (history : History) (number index : ℕ) (issuer : Option ℕ) → HasStep history index (step_by issuer true None) → Allows history number index
+  unlimited_allowed : (history : History) (number index : ℕ) (issuer : Option ℕ) → HasStep history index (step_by issuer true None)
+      → Allows history number index
   unlimited_allowed history number index issuer is step has =
       subst (IsAllowed day number) (step_once history index (step_by issuer true None) step is has)
       (record { authority = refl; depth = λ limit e. absurd (unlimited limit e); valid = during issuer true None })
@@ -43,10 +44,12 @@ module _ (start day end late : GeneralizedTime) (begun : IsEarlier day start →
   -- ---- a root, a CA that may issue no further CA, and a CA below it all the same, with a leaf each
 
   abbrev limited : History
-  limited = step_by None true None ∷ step_by (Some 0) true (Some 0) ∷ step_by (Some 1) false None ∷ step_by (Some 1) true None ∷ step_by (Some 3) false None ∷ []
+  limited =
+      step_by None true None ∷ step_by (Some 0) true (Some 0) ∷ step_by (Some 1) false None ∷ step_by (Some 1) true None ∷ step_by (Some 3) false None ∷ []
 
   line_of_2 : AreAncestors limited 2 (1 ∷ 0 ∷ [])
-  line_of_2 = ((record { step = _; is = refl; issued = refl }, (record { step = _; is = refl; issued = refl }, tt)), record { step = _; is = refl; unissued = refl })
+  line_of_2 =
+      ((record { step = _; is = refl; issued = refl }, (record { step = _; is = refl; issued = refl }, tt)), record { step = _; is = refl; unissued = refl })
 
   line_of_4 : AreAncestors limited 4 (3 ∷ 1 ∷ 0 ∷ [])
   line_of_4 = (
@@ -175,5 +178,6 @@ module _ (start day end late : GeneralizedTime) (begun : IsEarlier day start →
   early_is_not valid =
       let line : AreAncestors early 1 (0 ∷ []) = ((record { step = _; is = refl; issued = refl }, tt), record { step = _; is = refl; unissued = refl }) in
       let same = ancestors_once early 1 valid.ancestors (0 ∷ []) valid.are line in
-      let allowed = valid.allowed 0 0 (record { issuer = None; ca = true; pathlen = None; not_before = late; not_after = late }) (at_0 valid.ancestors same) refl in
+      let allowed =
+      valid.allowed 0 0 (record { issuer = None; ca = true; pathlen = None; not_before = late; not_after = late }) (at_0 valid.ancestors same) refl in
       allowed.valid.begun over

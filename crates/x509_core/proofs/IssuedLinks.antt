@@ -55,7 +55,8 @@ module _ (date : GeneralizedTime) (step : IssuingStep) (cert : KeptCertificate) 
   pub is_deep_enough : (number : ℕ) → ((limit : ℕ) → step.pathlen ≡ Some limit → number ≤ limit) → IsDeepEnough number cert.elements
   is_deep_enough number depth = λ limit has. depth limit ((recorded.length limit).0 has)
 
-  pub is_allowed : (number : ℕ) → HasCa cert.elements true → IsDeepEnough number cert.elements → IsWithinWindow (window_on date) cert.elements → IsAllowed date number step
+  pub is_allowed : (number : ℕ) → HasCa cert.elements true → IsDeepEnough number cert.elements → IsWithinWindow (window_on date) cert.elements
+      → IsAllowed date number step
   is_allowed number ca deep window = record {
     authority = has_flag ca;
     depth = λ limit is. deep limit ((recorded.length limit).1 is);
@@ -80,7 +81,8 @@ module _ (judge : Judge) (history : History) (certificates : List KeptCertificat
   abbrev Allows : ℕ → ℕ → Type 0
   Allows number index = (step : IssuingStep) → HasStep history index step → IsAllowed date number step
 
-  module _ (number index issuer : ℕ) (child parent : KeptCertificate) (under : HasIssuer history index issuer) (is_child : HasCert certificates index child) (is_parent : HasCert certificates issuer parent) where
+  module _ (number index issuer : ℕ) (child parent : KeptCertificate) (under : HasIssuer history index issuer) (is_child : HasCert certificates index child)
+      (is_parent : HasCert certificates issuer parent) where
     pub linked : Allows number issuer → IsLink judge (window_on date) number parent.elements child.elements
     linked allows =
         let found = has_step issuer parent is_parent in
@@ -101,7 +103,8 @@ module _ (judge : Judge) (history : History) (certificates : List KeptCertificat
   abbrev LinkOf : ℕ → KeptCertificate → KeptCertificate → Type 0
   LinkOf number parent child = IsLink judge (window_on date) number parent.elements child.elements
 
-  row_of_links : (number index : ℕ) (issuers : List ℕ) (child : KeptCertificate) (parents : List KeptCertificate) → AreIssuers history index issuers → HasCert certificates index child → AreCertsAt certificates issuers parents
+  row_of_links : (number index : ℕ) (issuers : List ℕ) (child : KeptCertificate) (parents : List KeptCertificate) → AreIssuers history index issuers
+      → HasCert certificates index child → AreCertsAt certificates issuers parents
       → HoldRow Allows number issuers → LinkRow LinkOf number child parents
   row_of_links number index [] child [] under is at holds = tt
   row_of_links number index [] child (parent ∷ parents) under is at holds = absurd at
@@ -109,22 +112,27 @@ module _ (judge : Judge) (history : History) (certificates : List KeptCertificat
   row_of_links number index (issuer ∷ issuers) child (parent ∷ parents) under is at holds =
       (linked number index issuer child parent under.0 is at.0 holds.0, row_of_links (number + 1) issuer issuers parent parents under.1 at.0 at.1 holds.1)
 
-  row_of_steps : (number index : ℕ) (issuers : List ℕ) (child : KeptCertificate) (parents : List KeptCertificate) → AreIssuers history index issuers → HasCert certificates index child → AreCertsAt certificates issuers parents
+  row_of_steps : (number index : ℕ) (issuers : List ℕ) (child : KeptCertificate) (parents : List KeptCertificate) → AreIssuers history index issuers
+      → HasCert certificates index child → AreCertsAt certificates issuers parents
       → LinkRow LinkOf number child parents → HoldRow Allows number issuers
   row_of_steps number index [] child parents under is at links = tt
   row_of_steps number index (issuer ∷ issuers) child [] under is at links = absurd at
   row_of_steps number index (issuer ∷ issuers) child (parent ∷ parents) under is at links =
       (allowed number index issuer child parent under.0 is at.0 links.0, row_of_steps (number + 1) issuer issuers parent parents under.1 at.0 at.1 links.1)
 
-  module _ (index : ℕ) (issuers : List ℕ) (child : KeptCertificate) (parents : List KeptCertificate) (under : AreIssuers history index issuers) (is : HasCert certificates index child) (at : AreCertsAt certificates issuers parents) where
+  module _ (index : ℕ) (issuers : List ℕ) (child : KeptCertificate) (parents : List KeptCertificate) (under : AreIssuers history index issuers)
+      (is : HasCert certificates index child) (at : AreCertsAt certificates issuers parents) where
     pub chain_linked : AreAllowed history date issuers → IsLinkedChain judge (window_on date) child parents
-    chain_linked allow = linked_of_row LinkOf child parents (row_of_links 0 index issuers child parents under is at (hold_row_of Allows issuers (λ number ancestor found step has. allow number ancestor step found has)))
+    chain_linked allow = linked_of_row LinkOf child parents (row_of_links 0 index issuers child parents under is at
+        (hold_row_of Allows issuers (λ number ancestor found step has. allow number ancestor step found has)))
 
     pub chain_allowed : IsLinkedChain judge (window_on date) child parents → AreAllowed history date issuers
-    chain_allowed links number ancestor step found has = holds_of_row Allows issuers (row_of_steps 0 index issuers child parents under is at (link_row_of LinkOf child parents links)) number ancestor found step has
+    chain_allowed links number ancestor step found has = holds_of_row Allows issuers
+        (row_of_steps 0 index issuers child parents under is at (link_row_of LinkOf child parents links)) number ancestor found step has
 
   -- the last certificate is that of the last index
-  last_cert : (index : ℕ) (issuers : List ℕ) (child : KeptCertificate) (parents : List KeptCertificate) → HasCert certificates index child → AreCertsAt certificates issuers parents → HasCert certificates (last_of index issuers) (last_of child parents)
+  last_cert : (index : ℕ) (issuers : List ℕ) (child : KeptCertificate) (parents : List KeptCertificate) → HasCert certificates index child
+      → AreCertsAt certificates issuers parents → HasCert certificates (last_of index issuers) (last_of child parents)
   last_cert index [] child [] is at = is
   last_cert index [] child (parent ∷ parents) is at = absurd at
   last_cert index (issuer ∷ issuers) child [] is at = absurd at
@@ -133,7 +141,8 @@ module _ (judge : Judge) (history : History) (certificates : List KeptCertificat
   dated : IsDated (checks_on date)
   dated asks absent = absurd cc
 
-  module _ (index : ℕ) (ancestors : List ℕ) (checked : KeptCertificate) (parents : List KeptCertificate) (are : AreAncestors history index ancestors) (is : HasCert certificates index checked) (at : AreCertsAt certificates ancestors parents) where
+  module _ (index : ℕ) (ancestors : List ℕ) (checked : KeptCertificate) (parents : List KeptCertificate) (are : AreAncestors history index ancestors)
+      (is : HasCert certificates index checked) (at : AreCertsAt certificates ancestors parents) where
     pub accepted : IsValidAt history index date → IsAccepted judge (checks_on date) checked (Some parents)
     accepted valid = record {
       dated = dated;
@@ -142,7 +151,8 @@ module _ (judge : Judge) (history : History) (certificates : List KeptCertificat
         parents = parents;
         is = refl;
         linked = chain_linked index ancestors checked parents are.0 is at (subst (AreAllowed history date) same valid.allowed);
-        rooted = λ rooted. (is_authority date are.1.step last (issued.recorded root are.1.step last are.1.is is_last) authority, issued.roots root last are.1 is_last);
+        rooted = λ rooted.
+            (is_authority date are.1.step last (issued.recorded root are.1.step last are.1.is is_last) authority, issued.roots root last are.1 is_last);
       };
     }
       where

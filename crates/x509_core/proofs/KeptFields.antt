@@ -18,4 +18,5 @@ has_fields element c made der is same = subst (λ (x : Certificate). HasFields e
 
 -- and an element with the fields of a certificate is known to encode one
 pub known_certificate : (x element : DerElement) (c : Certificate) → x ≡ element → HasFields element c → ∥ Fits IsCertificate x ∥₁
-known_certificate x element c same mine = ∥∥₁_elim mine.1.2 (λ a b. squash₁ a b) (λ are. merely (c, subst (λ (y : DerElement). IsCertificate y c) (sym (same ∙ mine.1.0)) (spelled_by mine.0 c are)))
+known_certificate x element c same mine =
+    ∥∥₁_elim mine.1.2 (λ a b. squash₁ a b) (λ are. merely (c, subst (λ (y : DerElement). IsCertificate y c) (sym (same ∙ mine.1.0)) (spelled_by mine.0 c are)))

@@ -22,7 +22,8 @@ pub named_once : (f : CertificateElements) (a b : List ℕ) → HasAuthorityKey 
 named_once f a b p q = begins_once p.0 q.0 a b (value_once f CE_AUTHORITY_KEY_IDENTIFIER.now p.0 q.0 p.1 q.1) p.2 q.2
 
 -- the same identifiers agree
-pub same_keys : (parent child : CertificateElements) (expected actual : List ℕ) → HasAuthorityKey child expected → HasSubjectKey parent actual → expected ≡ actual → AgreeByKey parent child
+pub same_keys : (parent child : CertificateElements) (expected actual : List ℕ) → HasAuthorityKey child expected → HasSubjectKey parent actual
+    → expected ≡ actual → AgreeByKey parent child
 same_keys parent child expected actual named had same = λ key other. subst (HasSubjectKey parent) (sym same ∙ named_once child expected key named other) had
 
 same_octets : (a b : List ℕ) → key_identifier a ≡ key_identifier b → a ≡ b

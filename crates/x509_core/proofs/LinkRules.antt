@@ -18,7 +18,8 @@ use Rattle.x509_core.proofs.Validity.{valid_is_met}
 
 -- ---- the path length
 
-pub deep_enough : (f g : CertificateElements) (count number pathlen : ℕ) → f ≡ g → HasPathLength f pathlen → pathlen < 256 → IsCountFor number count → number ≤ pathlen → IsDeepEnough count g
+pub deep_enough : (f g : CertificateElements) (count number pathlen : ℕ) → f ≡ g → HasPathLength f pathlen → pathlen < 256 → IsCountFor number count
+    → number ≤ pathlen → IsDeepEnough count g
 deep_enough f g count number pathlen same has small stands fits = λ limit there.
     let one : pathlen ≡ limit = path_length_once g pathlen limit (subst (λ (x : CertificateElements). HasPathLength x pathlen) same has) there in
     omega (arith, one, small, stands, fits)
@@ -48,22 +49,29 @@ module _ (judge : Judge) (w : Window) (count : ℕ) (parent child : KeptCertific
   too_deep e ca (inl broken) = inl (inr (authority_is_met parent ca, inl broken))
   too_deep e ca (inr memory) = inr memory
 
-  pub outside : (e : CertError) → HasCa parent.elements true → IsDeepEnough count parent.elements → Breaks (IsOutside w parent) e → RefusesCertBy (link_rules judge w count parent child) e
+  pub outside : (e : CertError) → HasCa parent.elements true → IsDeepEnough count parent.elements → Breaks (IsOutside w parent) e
+      → RefusesCertBy (link_rules judge w count parent child) e
   outside e ca deep (inl broken) = inl (inr (authority_is_met parent ca, inr (depth_is_met count parent deep, inl broken)))
   outside e ca deep (inr memory) = inr memory
 
-  no_parent : (e : CertError) → HasCa parent.elements true → IsDeepEnough count parent.elements → IsWithinWindow w parent.elements → RefusesParent parent child e → e ≢ errors.Memory → RefusesCertBy (link_rules judge w count parent child) e
-  no_parent e ca deep valid refused returned = inl (inr (authority_is_met parent ca, inr (depth_is_met count parent deep, inr (window_is_met w parent valid, inl (refused, returned)))))
+  no_parent : (e : CertError) → HasCa parent.elements true → IsDeepEnough count parent.elements → IsWithinWindow w parent.elements
+      → RefusesParent parent child e → e ≢ errors.Memory → RefusesCertBy (link_rules judge w count parent child) e
+  no_parent e ca deep valid refused returned =
+      inl (inr (authority_is_met parent ca, inr (depth_is_met count parent deep, inr (window_is_met w parent valid, inl (refused, returned)))))
 
-  pub parent_refused : (e : CertError) → HasCa parent.elements true → IsDeepEnough count parent.elements → IsWithinWindow w parent.elements → RefusesParent parent child e → RefusesCertBy (link_rules judge w count parent child) e
-  parent_refused (errors.InvalidCertificate id source) ca deep valid refused = no_parent (errors.InvalidCertificate id source) ca deep valid refused (λ e. absurd cc)
+  pub parent_refused : (e : CertError) → HasCa parent.elements true → IsDeepEnough count parent.elements → IsWithinWindow w parent.elements
+      → RefusesParent parent child e → RefusesCertBy (link_rules judge w count parent child) e
+  parent_refused (errors.InvalidCertificate id source) ca deep valid refused =
+      no_parent (errors.InvalidCertificate id source) ca deep valid refused (λ e. absurd cc)
   parent_refused errors.Memory ca deep valid refused = inr refl
   parent_refused e ca deep valid refused = absurd refused
 
-  pub signed_or_not : {X : Type 0} (r : Result X CertError) → HasCa parent.elements true → IsDeepEnough count parent.elements → IsWithinWindow w parent.elements → AgreeByKeyAndName parent.elements child.elements
+  pub signed_or_not : {X : Type 0} (r : Result X CertError) → HasCa parent.elements true → IsDeepEnough count parent.elements → IsWithinWindow w parent.elements
+      → AgreeByKeyAndName parent.elements child.elements
       → MatchResult r (λ _. IsSignedBy judge parent.elements child.elements) (RefusesCertBy (link_signature_rules judge parent child))
       → MatchResult r (λ _. IsLink judge w count parent.elements child.elements) (RefusesCertBy (link_rules judge w count parent child))
   signed_or_not (Ok v) ca deep valid agreed signed = record { authority = ca; depth = deep; valid = valid; agreed = agreed; signed = signed }
   signed_or_not (Err e) ca deep valid agreed (inl broken) =
-      inl (inr (authority_is_met parent ca, inr (depth_is_met count parent deep, inr (window_is_met w parent valid, inr (parent_is_met parent child agreed, broken)))))
+      inl (inr
+      (authority_is_met parent ca, inr (depth_is_met count parent deep, inr (window_is_met w parent valid, inr (parent_is_met parent child agreed, broken)))))
   signed_or_not (Err e) ca deep valid agreed (inr memory) = inr memory

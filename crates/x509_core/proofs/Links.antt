@@ -20,7 +20,8 @@ pub same_link : (a b c d : CertificateElements) (l : KeyLink) → a ≡ c → b 
 same_link a b c d l p q link = subst (λ (x : CertificateElements). IsKeyLink x d l) p (subst (λ (y : CertificateElements). IsKeyLink a y l) q link)
 
 pub same_test : (a b c d : CertificateElements) (t : Bool) → a ≡ c → b ≡ d → (IsTrue t ↔ AgreeByName a b) → IsTrue t ↔ AgreeByName c d
-same_test a b c d t p q test = subst (λ (x : CertificateElements). IsTrue t ↔ AgreeByName x d) p (subst (λ (y : CertificateElements). IsTrue t ↔ AgreeByName a y) q test)
+same_test a b c d t p q test =
+    subst (λ (x : CertificateElements). IsTrue t ↔ AgreeByName x d) p (subst (λ (y : CertificateElements). IsTrue t ↔ AgreeByName a y) q test)
 
 -- a parent that lacks the key identifier isn't linked
 pub lacking : (parent child : CertificateElements) → LacksKey parent child → AgreeByKeyAndName parent child → ⊥
@@ -39,7 +40,8 @@ not_chained parent child (chain.IssuerIsNotCA id) agreed refused = refused
 not_chained parent child (chain.AuthorityKeyIdMismatch expected actual) agreed refused = differing parent.elements child.elements expected actual refused agreed
 not_chained parent child (chain.IssuerNameMismatch expected actual) agreed refused = refused.name agreed.name
 
-not_linked : (parent child : KeptCertificate) (id : DirectoryName) (cause : CertCause) → AgreeByKeyAndName parent.elements child.elements → RefusesLink parent child id cause → ⊥
+not_linked : (parent child : KeptCertificate) (id : DirectoryName) (cause : CertCause) → AgreeByKeyAndName parent.elements child.elements
+    → RefusesLink parent child id cause → ⊥
 not_linked parent child id (causes.InvalidChain source) agreed refused = not_chained parent child source agreed refused.1
 not_linked parent child id (causes.ExtensionNotFound name) agreed refused = lacking parent.elements child.elements refused.2 agreed
 not_linked parent child id cause agreed refused = absurd refused

@@ -38,11 +38,14 @@ module _ {K : Type 0} where
       behind h k a b x y same (two_places a b x y c d rest)
 
 module _ (judge : Judge) (w : Window) (checked : KeptCertificate) where
-  before_is_linked : (parents : List KeptCertificate) (a b : CertError) (p : IsFirstUnlinked judge w checked parents a) (q : IsFirstUnlinked judge w checked parents b) (rest : List KeptCertificate)
+  before_is_linked : (parents : List KeptCertificate) (a b : CertError) (p : IsFirstUnlinked judge w checked parents a)
+      (q : IsFirstUnlinked judge w checked parents b) (rest : List KeptCertificate)
       → q.before ≡ p.before ++ p.parent ∷ rest → ⊥
-  before_is_linked parents a b p q rest e = link_is_met judge w (length p.before) p.parent (last_of checked p.before) a (q.linked p.before rest p.parent e) p.broken
+  before_is_linked parents a b p q rest e =
+      link_is_met judge w (length p.before) p.parent (last_of checked p.before) a (q.linked p.before rest p.parent e) p.broken
 
-  same_place : (parents : List KeptCertificate) (a b : CertError) (p : IsFirstUnlinked judge w checked parents a) (q : IsFirstUnlinked judge w checked parents b)
+  same_place : (parents : List KeptCertificate) (a b : CertError) (p : IsFirstUnlinked judge w checked parents a)
+      (q : IsFirstUnlinked judge w checked parents b)
       → AreTwo p.before q.before p.parent q.parent → a ≡ b
   same_place parents a b p q (inl (before, parent)) =
       let there = subst (λ (k : KeptCertificate). IsFirstBroken (link_rules judge w (length q.before) k (last_of checked q.before)) a) parent
@@ -58,7 +61,8 @@ module _ (judge : Judge) (checks : ChainChecks) (checked : KeptCertificate) (giv
   link_returned_once : IsReturnedOnce (IsUnlinked judge checks checked given)
   link_returned_once = λ a b p q.
       let same = same_list p.parents q.parents (sym p.is ∙ q.is) in
-      unlinked_once judge checks.window checked q.parents a b (subst (λ (ks : List KeptCertificate). IsFirstUnlinked judge checks.window checked ks a) same p.first) q.first
+      unlinked_once judge checks.window checked q.parents a b
+      (subst (λ (ks : List KeptCertificate). IsFirstUnlinked judge checks.window checked ks a) same p.first) q.first
 
   pub chain_once : IsReturnedOnce (IsFirstBroken (chain_rules judge checks checked given))
   chain_once = λ a b p q. one_broken (chain_rules judge checks checked given) (

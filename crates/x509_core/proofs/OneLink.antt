@@ -45,7 +45,8 @@ early_once : (w : Window) (f : CertificateElements) → IsReturnedOnce (IsNotYet
 early_once w f = λ a b p q.
     let begins = one_time _ p.not_before q.not_before p.begins q.begins in
     let now = same_some p.now q.now (sym p.last ∙ q.last) in
-    p.returned ∙ ap (λ (t : GeneralizedTime). causes.CertificateNotYetValid t p.now) begins ∙ ap (causes.CertificateNotYetValid q.not_before) now ∙ sym q.returned
+    p.returned ∙ ap (λ (t : GeneralizedTime). causes.CertificateNotYetValid t p.now) begins ∙ ap (causes.CertificateNotYetValid q.not_before) now
+    ∙ sym q.returned
 
 over_once : (w : Window) (f : CertificateElements) → IsReturnedOnce (IsOver w f)
 over_once w f = λ a b p q.
@@ -66,7 +67,8 @@ one_name kept a b p q = same_name a b (p ∙ sym q)
 
 pub returned_once : (kept : KeptCertificate) (rule : Rule CertCause) → IsReturnedOnce rule → IsReturnedOnce (IsReportedOf kept rule)
 returned_once kept rule one = λ a b p q.
-    p.returned ∙ ap (λ (id : DirectoryName). errors.InvalidCertificate id p.cause) (one_name kept p.id q.id p.name q.name) ∙ ap (errors.InvalidCertificate q.id) (one p.cause q.cause p.broken q.broken) ∙ sym q.returned
+    p.returned ∙ ap (λ (id : DirectoryName). errors.InvalidCertificate id p.cause) (one_name kept p.id q.id p.name q.name)
+    ∙ ap (errors.InvalidCertificate q.id) (one p.cause q.cause p.broken q.broken) ∙ sym q.returned
 
 authority_once : (parent : KeptCertificate) → IsReturnedOnce (IsNoAuthority parent)
 authority_once parent = λ a b p q.
@@ -106,14 +108,22 @@ module _ (parent child : KeptCertificate) where
   abbrev Sorted : CertError → Type 0
   Sorted e = Lacks e ⊎ (HasOther e ⊎ IsOther e)
 
-  of_chain : (id : DirectoryName) (source : CaChainError) → IsNameOf child id → RefusesChain parent child source → Sorted (errors.InvalidCertificate id (causes.InvalidChain source))
-  of_chain id (chain.AuthorityKeyIdMismatch expected actual) name refused = inr (inl (record { id = id; expected = expected; actual = actual; name = name; differ = refused; returned = refl }))
-  of_chain id (chain.IssuerNameMismatch expected actual) name refused = inr (inr (record { id = id; expected = expected; actual = actual; name = name; differ = refused; returned = refl }))
+  of_chain : (id : DirectoryName) (source : CaChainError) → IsNameOf child id → RefusesChain parent child source
+      → Sorted (errors.InvalidCertificate id (causes.InvalidChain source))
+  of_chain id (chain.AuthorityKeyIdMismatch expected actual) name refused =
+      inr (inl (record { id = id; expected = expected; actual = actual; name = name; differ = refused; returned = refl }))
+  of_chain id (chain.IssuerNameMismatch expected actual) name refused =
+      inr (inr (record { id = id; expected = expected; actual = actual; name = name; differ = refused; returned = refl }))
   of_chain id _ name refused = absurd refused
 
   of_cause : (id : DirectoryName) (cause : CertCause) → RefusesLink parent child id cause → Sorted (errors.InvalidCertificate id cause)
   of_cause id (causes.InvalidChain source) refused = of_chain id source refused.0 refused.1
-  of_cause id (causes.ExtensionNotFound name) refused = inl (record { id = id; name = refused.0; lacks = refused.2; returned = ap (λ (n : _). errors.InvalidCertificate id (causes.ExtensionNotFound n)) refused.1 })
+  of_cause id (causes.ExtensionNotFound name) refused = inl (record {
+    id = id;
+    name = refused.0;
+    lacks = refused.2;
+    returned = ap (λ (n : _). errors.InvalidCertificate id (causes.ExtensionNotFound n)) refused.1;
+  })
   of_cause id _ refused = absurd refused
 
   sorted : (e : CertError) → RefusesParent parent child e → e ≢ errors.Memory → Sorted e
@@ -123,19 +133,26 @@ module _ (parent child : KeptCertificate) where
 
   same_lack : (a b : CertError) → Lacks a → Lacks b → a ≡ b
   same_lack a b p q =
-      p.returned ∙ ap (λ (id : DirectoryName). errors.InvalidCertificate id (causes.ExtensionNotFound names.SubjectKeyIdentifier)) (one_name parent p.id q.id p.name q.name) ∙ sym q.returned
+      p.returned ∙ ap (λ (id : DirectoryName). errors.InvalidCertificate id (causes.ExtensionNotFound names.SubjectKeyIdentifier))
+      (one_name parent p.id q.id p.name q.name) ∙ sym q.returned
 
   same_keys : (a b : CertError) → HasOther a → HasOther b → a ≡ b
   same_keys a b p q =
-      p.returned ∙ ap (λ (id : DirectoryName). errors.InvalidCertificate id (causes.InvalidChain (chain.AuthorityKeyIdMismatch p.expected p.actual))) (one_name child p.id q.id p.name q.name)
-      ∙ ap (λ (key : List ℕ). errors.InvalidCertificate q.id (causes.InvalidChain (chain.AuthorityKeyIdMismatch key p.actual))) (named_once child.elements p.expected q.expected p.differ.named q.differ.named)
-      ∙ ap (λ (key : List ℕ). errors.InvalidCertificate q.id (causes.InvalidChain (chain.AuthorityKeyIdMismatch q.expected key))) (had_once parent.elements p.actual q.actual p.differ.had q.differ.had) ∙ sym q.returned
+      p.returned ∙ ap (λ (id : DirectoryName). errors.InvalidCertificate id (causes.InvalidChain (chain.AuthorityKeyIdMismatch p.expected p.actual)))
+      (one_name child p.id q.id p.name q.name)
+      ∙ ap (λ (key : List ℕ). errors.InvalidCertificate q.id (causes.InvalidChain (chain.AuthorityKeyIdMismatch key p.actual)))
+      (named_once child.elements p.expected q.expected p.differ.named q.differ.named)
+      ∙ ap (λ (key : List ℕ). errors.InvalidCertificate q.id (causes.InvalidChain (chain.AuthorityKeyIdMismatch q.expected key)))
+      (had_once parent.elements p.actual q.actual p.differ.had q.differ.had) ∙ sym q.returned
 
   same_names : (a b : CertError) → IsOther a → IsOther b → a ≡ b
   same_names a b p q =
-      p.returned ∙ ap (λ (id : DirectoryName). errors.InvalidCertificate id (causes.InvalidChain (chain.IssuerNameMismatch p.expected p.actual))) (one_name child p.id q.id p.name q.name)
-      ∙ ap (λ (name : DirectoryName). errors.InvalidCertificate q.id (causes.InvalidChain (chain.IssuerNameMismatch name p.actual))) (same_name p.expected q.expected (p.differ.expected_is ∙ sym q.differ.expected_is))
-      ∙ ap (λ (name : DirectoryName). errors.InvalidCertificate q.id (causes.InvalidChain (chain.IssuerNameMismatch q.expected name))) (same_name p.actual q.actual (p.differ.actual_is ∙ sym q.differ.actual_is)) ∙ sym q.returned
+      p.returned ∙ ap (λ (id : DirectoryName). errors.InvalidCertificate id (causes.InvalidChain (chain.IssuerNameMismatch p.expected p.actual)))
+      (one_name child p.id q.id p.name q.name)
+      ∙ ap (λ (name : DirectoryName). errors.InvalidCertificate q.id (causes.InvalidChain (chain.IssuerNameMismatch name p.actual)))
+      (same_name p.expected q.expected (p.differ.expected_is ∙ sym q.differ.expected_is))
+      ∙ ap (λ (name : DirectoryName). errors.InvalidCertificate q.id (causes.InvalidChain (chain.IssuerNameMismatch q.expected name)))
+      (same_name p.actual q.actual (p.differ.actual_is ∙ sym q.differ.actual_is)) ∙ sym q.returned
 
   lacks_and_has : (a b : CertError) → Lacks a → HasOther b → ⊥
   lacks_and_has a b p q = p.lacks.none q.actual q.differ.had
@@ -164,7 +181,8 @@ module _ (parent child : KeptCertificate) where
 
 unsupported_once : (child : KeptCertificate) → IsReturnedOnce (IsUnsupported child)
 unsupported_once child = λ a b p q.
-    p.returned ∙ ap (λ (id : AlgorithmIdentifier). errors.Signature (signature_errors.UnsupportedAlgorithm (unsupported.Oid id.oid))) (one_algorithm child.elements p.id q.id p.beside q.beside) ∙ sym q.returned
+    p.returned ∙ ap (λ (id : AlgorithmIdentifier). errors.Signature (signature_errors.UnsupportedAlgorithm (unsupported.Oid id.oid)))
+    (one_algorithm child.elements p.id q.id p.beside q.beside) ∙ sym q.returned
 
 signature_returned_once : (judge : Judge) (parent child : CertificateElements) → IsReturnedOnce (IsBadlySignedLink judge parent child)
 signature_returned_once judge parent child = λ a b p q.
@@ -174,12 +192,14 @@ signature_returned_once judge parent child = λ a b p q.
     let info = one_key parent p.info q.info p.parts.key q.parts.key in
     let refused = subst (λ (i : SubjectPublicKeyInfo). IsFirstBroken (verify_rules judge q.algorithm i (signed_octets child) child.signature) p.source) info
     (subst (λ (g : SignatureAlgorithm). IsFirstBroken (verify_rules judge g p.info (signed_octets child) child.signature) p.source) algorithm p.refused) in
-    let source = one_broken (verify_rules judge q.algorithm q.info (signed_octets child) child.signature) (verify_one judge q.algorithm q.info (signed_octets child) child.signature) p.source q.source refused q.refused in
+    let source = one_broken (verify_rules judge q.algorithm q.info (signed_octets child) child.signature)
+    (verify_one judge q.algorithm q.info (signed_octets child) child.signature) p.source q.source refused q.refused in
     p.returned ∙ ap (λ (s : SignatureError). causes.Signature s) source ∙ sym q.returned
 
 -- ---- links
 
-pub link_once : (judge : Judge) (w : Window) (count : ℕ) (parent child : KeptCertificate) → IsReturnedOnce (IsFirstBroken (link_rules judge w count parent child))
+pub link_once : (judge : Judge) (w : Window) (count : ℕ) (parent child : KeptCertificate)
+    → IsReturnedOnce (IsFirstBroken (link_rules judge w count parent child))
 link_once judge w count parent child = λ a b p q. one_broken (link_rules judge w count parent child) (
   authority_once parent,
   (

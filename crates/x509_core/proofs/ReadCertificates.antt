@@ -15,7 +15,8 @@ use Rattle.x509_core.specs.declared.error.CertError.TheVariants as errors
 abbrev pub AreReadSoFar : (all rest : List (List ℕ)) → List KeptCertificate → Type 0
 AreReadSoFar all rest kept = all ≡ map kept_octets kept ++ rest
 
-module _ (all rest : List (List ℕ)) (kept : List KeptCertificate) (octets : List ℕ) (others : List (List ℕ)) (so_far : AreReadSoFar all rest kept) (next : rest ≡ octets ∷ others) where
+module _ (all rest : List (List ℕ)) (kept : List KeptCertificate) (octets : List ℕ) (others : List (List ℕ)) (so_far : AreReadSoFar all rest kept)
+    (next : rest ≡ octets ∷ others) where
   -- if the next isn't read
   pub next_unread : (e : CertError) → IsUnreadCert elements.Certificate (RefusesOctets IsCertificate octets) e → IsFirstUnread all e
   next_unread e unread = record {
@@ -31,7 +32,8 @@ module _ (all rest : List (List ℕ)) (kept : List KeptCertificate) (octets : Li
   next_unkept = next_unread errors.Memory (der.Memory, refl, tt)
 
   -- if it is read
-  pub next_read : (certificate : KeptCertificate) (longer : List KeptCertificate) → kept_octets certificate ≡ octets → longer ≡ kept ++ certificate ∷ [] → AreReadSoFar all others longer
+  pub next_read : (certificate : KeptCertificate) (longer : List KeptCertificate) → kept_octets certificate ≡ octets → longer ≡ kept ++ certificate ∷ []
+      → AreReadSoFar all others longer
   next_read certificate longer is pushed =
       so_far ∙ ap (λ (r : List (List ℕ)). map kept_octets kept ++ r) next
       ∙ ap (λ (o : List ℕ). map kept_octets kept ++ o ∷ others) (sym is)

@@ -16,7 +16,8 @@ none_is_some x e = absurd cc
 
 module _ {K : Type 0} (Link : ℕ → K → K → Type 0) where
   abbrev pub LinkedFrom : ℕ → K → List K → Type 0
-  LinkedFrom number child parents = (before after : List K) (parent : K) → parents ≡ before ++ parent ∷ after → Link (number + length before) parent (last_of child before)
+  LinkedFrom number child parents = (before after : List K) (parent : K) → parents ≡ before ++ parent ∷ after
+      → Link (number + length before) parent (last_of child before)
 
   -- the same by recursion
   abbrev pub LinkRow : ℕ → K → List K → Type 0
@@ -31,8 +32,10 @@ module _ {K : Type 0} (Link : ℕ → K → K → Type 0) where
   pub link_row : (number : ℕ) (child : K) (parents : List K) → LinkedFrom number child parents → LinkRow number child parents
   link_row number child [] linked = tt
   link_row number child (parent ∷ parents) linked =
-      let shift : number + length {A = K} [] ≡ number = omega arith in
-      (subst (λ (n : ℕ). Link n parent child) shift (linked [] parents parent refl), link_row (number + 1) parent parents (rest_linked number child parent parents linked))
+      let shift : number + length {A = K} [] ≡ number = omega arith in (
+        subst (λ (n : ℕ). Link n parent child) shift (linked [] parents parent refl),
+        link_row (number + 1) parent parents (rest_linked number child parent parents linked),
+      )
 
   pub row_linked : (number : ℕ) (child : K) (parents : List K) → LinkRow number child parents → LinkedFrom number child parents
   row_linked number child [] row before after next e = absurd (nothing_within before after next e)
@@ -44,16 +47,21 @@ module _ {K : Type 0} (Link : ℕ → K → K → Type 0) where
       let same : parent ≡ b = cc in
       let rest : parents ≡ before ++ next ∷ after = cc in
       let shift : number + 1 + length before ≡ number + length (b ∷ before) = omega arith in
-      subst (λ (n : ℕ). Link n next (last_of b before)) shift (subst (λ (k : K). Link (number + 1 + length before) next (last_of k before)) same (row_linked (number + 1) parent parents row.1 before after next rest))
+      subst (λ (n : ℕ). Link n next (last_of b before)) shift
+      (subst (λ (k : K). Link (number + 1 + length before) next (last_of k before)) same (row_linked (number + 1) parent parents row.1 before after next rest))
 
   from_zero : (n : ℕ) → 0 + n ≡ n
   from_zero n = omega arith
 
-  pub link_row_of : (child : K) (parents : List K) → ((before after : List K) (parent : K) → parents ≡ before ++ parent ∷ after → Link (length before) parent (last_of child before)) → LinkRow 0 child parents
-  link_row_of child parents linked = link_row 0 child parents (λ before after parent e. subst (λ (n : ℕ). Link n parent (last_of child before)) (sym (from_zero (length before))) (linked before after parent e))
+  pub link_row_of : (child : K) (parents : List K) → ((before after : List K) (parent : K) → parents ≡ before ++ parent ∷ after
+      → Link (length before) parent (last_of child before)) → LinkRow 0 child parents
+  link_row_of child parents linked = link_row 0 child parents
+      (λ before after parent e. subst (λ (n : ℕ). Link n parent (last_of child before)) (sym (from_zero (length before))) (linked before after parent e))
 
-  pub linked_of_row : (child : K) (parents : List K) → LinkRow 0 child parents → (before after : List K) (parent : K) → parents ≡ before ++ parent ∷ after → Link (length before) parent (last_of child before)
-  linked_of_row child parents row before after parent e = subst (λ (n : ℕ). Link n parent (last_of child before)) (from_zero (length before)) (row_linked 0 child parents row before after parent e)
+  pub linked_of_row : (child : K) (parents : List K) → LinkRow 0 child parents → (before after : List K) (parent : K) → parents ≡ before ++ parent ∷ after
+      → Link (length before) parent (last_of child before)
+  linked_of_row child parents row before after parent e =
+      subst (λ (n : ℕ). Link n parent (last_of child before)) (from_zero (length before)) (row_linked 0 child parents row before after parent e)
 
 -- ---- items
 

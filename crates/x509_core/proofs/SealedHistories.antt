@@ -64,7 +64,8 @@ module _ (f g : CertificateElements) (same : f.tbs ≡ g.tbs) where
 
   window_there : (w : Window) → IsWithinWindow w f → IsWithinWindow w g
   window_there w valid = record {
-    begun = λ asked not_before now begins. valid.begun asked not_before now (subst (λ (t : TbsElements). IsTimeAt (kid 0 t.validity) not_before) (sym same) begins);
+    begun =
+        λ asked not_before now begins. valid.begun asked not_before now (subst (λ (t : TbsElements). IsTimeAt (kid 0 t.validity) not_before) (sym same) begins);
     lasts = λ asked not_after now ends. valid.lasts asked not_after now (subst (λ (t : TbsElements). IsTimeAt (kid 1 t.validity) not_after) (sym same) ends);
   }
 
@@ -80,7 +81,9 @@ shape_of kept = ∥∥₁_elim kept.spelled (λ a b. squash₁ a b) (λ are. ∣
 
 -- ---- back along a chain
 
-module _ (judge : Judge) (history : History) (certificates : List KeptCertificate) (date : GeneralizedTime) (issued : IsIssued judge history certificates) (is_sealed : IsSealed judge history certificates) (root : ℕ) (anchor : KeptCertificate) (is_root : IsRootStep history root) (is_anchor : HasCert certificates root anchor) where
+module _ (judge : Judge) (history : History) (certificates : List KeptCertificate) (date : GeneralizedTime) (issued : IsIssued judge history certificates)
+    (is_sealed : IsSealed judge history certificates) (root : ℕ) (anchor : KeptCertificate) (is_root : IsRootStep history root)
+    (is_anchor : HasCert certificates root anchor) where
   abbrev Allows : ℕ → ℕ → Type 0
   Allows number index = (step : IssuingStep) → HasStep history index step → IsAllowed date number step
 
@@ -102,14 +105,17 @@ module _ (judge : Judge) (history : History) (certificates : List KeptCertificat
   allows number parent child t link step is =
       let same = one_tbs parent t.own t.same in
       let recorded = issued.recorded t.index step t.own is t.is in
-      is_allowed date step t.own recorded number (ca_there parent.elements t.own.elements same link.authority) (depth_there parent.elements t.own.elements same number link.depth)
+      is_allowed date step t.own recorded number (ca_there parent.elements t.own.elements same link.authority)
+      (depth_there parent.elements t.own.elements same number link.depth)
       (window_there parent.elements t.own.elements same (window_on date) link.valid)
 
-  signed_one : (number : ℕ) (parent child : KeptCertificate) (t : Trace (number + 1) parent) → LinkOf number parent child → IsOneOf history certificates t.index (signed_octets child.elements)
+  signed_one : (number : ℕ) (parent child : KeptCertificate) (t : Trace (number + 1) parent) → LinkOf number parent child
+      → IsOneOf history certificates t.index (signed_octets child.elements)
   signed_one number parent child t link =
       let same = one_tbs parent t.own t.same in
       let signed = link.signed in
-      is_sealed t.index t.own signed.info signed.algorithm child.elements.tbs child.elements.signature t.is (key_there parent.elements t.own.elements same signed.info signed.parts.key) (shape_of child) signed.accepted
+      is_sealed t.index t.own signed.info signed.algorithm child.elements.tbs child.elements.signature t.is
+      (key_there parent.elements t.own.elements same signed.info signed.parts.key) (shape_of child) signed.accepted
 
   one_back : (number : ℕ) (parent child : KeptCertificate) → Trace (number + 1) parent → LinkOf number parent child → Trace number child
   one_back number parent child t link = by one.under
@@ -142,7 +148,8 @@ module _ (judge : Judge) (history : History) (certificates : List KeptCertificat
             ends = same ∙ ap (last_of t.index) (sym none) ∙ t.ends;
           }
 
-  back : (number : ℕ) (child : KeptCertificate) (parents : List KeptCertificate) → LinkRow LinkOf number child parents → signed_octets (last_of child parents).elements ≡ signed_octets anchor.elements → Trace number child
+  back : (number : ℕ) (child : KeptCertificate) (parents : List KeptCertificate) → LinkRow LinkOf number child parents
+      → signed_octets (last_of child parents).elements ≡ signed_octets anchor.elements → Trace number child
   back number child [] links ends = record {
     index = root;
     own = anchor;
@@ -155,8 +162,10 @@ module _ (judge : Judge) (history : History) (certificates : List KeptCertificat
   }
   back number child (parent ∷ parents) links ends = one_back number parent child (back (number + 1) parent parents links.1 ends) links.0
 
-  module _ (checked parent : KeptCertificate) (parents : List KeptCertificate) (ends : signed_octets (last_of parent parents).elements ≡ signed_octets anchor.elements) where
-    by_path : IsWithinWindow (window_on date) checked.elements → IsPath judge (checks_on date) checked (Some (parent ∷ parents)) → IsOfValid history certificates date checked
+  module _ (checked parent : KeptCertificate) (parents : List KeptCertificate)
+      (ends : signed_octets (last_of parent parents).elements ≡ signed_octets anchor.elements) where
+    by_path : IsWithinWindow (window_on date) checked.elements → IsPath judge (checks_on date) checked (Some (parent ∷ parents))
+        → IsOfValid history certificates date checked
     by_path window path =
         let given : parent ∷ parents ≡ path.parents = same_some (parent ∷ parents) path.parents path.is in
         let linked = subst (IsLinkedChain judge (window_on date) checked) (sym given) path.linked in

@@ -21,9 +21,11 @@ use Rattle.x509_core.proofs.SignedParts.{one_algorithm, one_key}
 
 supported_by : (judge : Judge) (parent : CertificateElements) (child : KeptCertificate) → IsSignedBy judge parent child.elements → IsMet (IsUnsupported child)
 supported_by judge parent child s = λ e broken.
-    broken.unnamed s.algorithm (subst (λ (id : AlgorithmIdentifier). NamesSignature id s.algorithm) (one_algorithm child.elements s.parts.id broken.id s.parts.beside broken.beside) s.parts.named)
+    broken.unnamed s.algorithm (subst (λ (id : AlgorithmIdentifier). NamesSignature id s.algorithm)
+    (one_algorithm child.elements s.parts.id broken.id s.parts.beside broken.beside) s.parts.named)
 
-well_signed : (judge : Judge) (parent child : CertificateElements) (cause : CertCause) → IsSignedBy judge parent child → IsBadlySignedLink judge parent child cause → ⊥
+well_signed : (judge : Judge) (parent child : CertificateElements) (cause : CertCause) → IsSignedBy judge parent child
+    → IsBadlySignedLink judge parent child cause → ⊥
 well_signed judge parent child cause s b =
     let id = one_algorithm child s.parts.id b.parts.id s.parts.beside b.parts.beside in
     let named = subst (λ (id : AlgorithmIdentifier). NamesSignature id s.algorithm) id s.parts.named in
@@ -33,11 +35,13 @@ well_signed judge parent child cause s b =
     (subst (λ (i : SubjectPublicKeyInfo). IsFirstBroken (verify_rules judge s.algorithm i (signed_octets child) child.signature) b.source) info
     (subst (λ (a : SignatureAlgorithm). IsFirstBroken (verify_rules judge a b.info (signed_octets child) child.signature) b.source) algorithm b.refused))
 
-pub link_is_met : (judge : Judge) (w : Window) (count : ℕ) (parent child : KeptCertificate) (e : CertError) → IsLink judge w count parent.elements child.elements → IsFirstBroken (link_rules judge w count parent child) e → ⊥
+pub link_is_met : (judge : Judge) (w : Window) (count : ℕ) (parent child : KeptCertificate) (e : CertError)
+    → IsLink judge w count parent.elements child.elements → IsFirstBroken (link_rules judge w count parent child) e → ⊥
 link_is_met judge w count parent child e link (inl broken) = authority_is_met parent link.authority e broken
 link_is_met judge w count parent child e link (inr (a, inl broken)) = depth_is_met count parent link.depth e broken
 link_is_met judge w count parent child e link (inr (a, inr (b, inl broken))) = window_is_met w parent link.valid e broken
 link_is_met judge w count parent child e link (inr (a, inr (b, inr (c, inl broken)))) = parent_is_met parent child link.agreed e broken
 link_is_met judge w count parent child e link (inr (a, inr (b, inr (c, inr (d, inl broken))))) = supported_by judge parent.elements child link.signed e broken
-link_is_met judge w count parent child e link (inr (a, inr (b, inr (c, inr (d, inr (f, inl broken)))))) = well_signed judge parent.elements child.elements broken.cause link.signed broken.broken
+link_is_met judge w count parent child e link (inr (a, inr (b, inr (c, inr (d, inr (f, inl broken)))))) =
+    well_signed judge parent.elements child.elements broken.cause link.signed broken.broken
 link_is_met judge w count parent child e link (inr (a, inr (b, inr (c, inr (d, inr (f, inr none)))))) = none.1

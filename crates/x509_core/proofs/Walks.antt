@@ -7,7 +7,8 @@ use Rattle.std.specs.Iterator.{Yields, Drains}
 use Rattle.der_core.specs.Rules.{OrMemory, IsFirstBroken}
 use Rattle.key_core.specs.Verifying.{Judge}
 use Rattle.x509_core.specs.CertType.{IsOfType}
-use Rattle.x509_core.specs.Chain.{GaveSoFar, IsWalked, WasAccepted, WasRefused, IsDated, IsLinkedChain, IsFirstUnlinked, LacksDate, IsAccepted, chain_rules, last_of, lent}
+use Rattle.x509_core.specs.Chain.{GaveSoFar, IsWalked, WasAccepted, WasRefused, IsDated, IsLinkedChain}
+use Rattle.x509_core.specs.Chain.{IsFirstUnlinked, LacksDate, IsAccepted, chain_rules, last_of, lent}
 use Rattle.x509_core.specs.KeptCertificate.{KeptCertificate}
 use Rattle.x509_core.specs.Link.{IsOutside, link_rules}
 use Rattle.x509_core.specs.Parent.{RefusesParent}
@@ -33,7 +34,8 @@ where_asked (Ok v) p = tt
 where_asked (Err e) p = λ none. p
 
 -- the refusal for a missing root isn't out of memory
-pub unrooted_is_returned : {X : Type 0} (P Q R N : Type 0) (r : Result X CertError) → MatchResult r (λ _. P) (λ e. Q × R × (e ≡ errors.InvalidChain chain_errors.NoRoot)) → IfErr r (λ e. e ≡ errors.Memory → N)
+pub unrooted_is_returned : {X : Type 0} (P Q R N : Type 0) (r : Result X CertError)
+    → MatchResult r (λ _. P) (λ e. Q × R × (e ≡ errors.InvalidChain chain_errors.NoRoot)) → IfErr r (λ e. e ≡ errors.Memory → N)
 unrooted_is_returned P Q R N (Ok v) h = tt
 unrooted_is_returned P Q R N (Err e) h = λ none. let other = h.2 in absurd cc
 
@@ -42,7 +44,8 @@ unrooted_is_returned P Q R N (Err e) h = λ none. let other = h.2 in absurd cc
 abbrev IsOfNoRoot : CertError → Type 0
 IsOfNoRoot e = e ≡ errors.InvalidChain chain_errors.NoRoot
 
-no_link_lacks_root : (judge : Judge) (w : Window) (count : _) (parent child : KeptCertificate) (e : CertError) → IsOfNoRoot e → IsFirstBroken (link_rules judge w count parent child) e → ⊥
+no_link_lacks_root : (judge : Judge) (w : Window) (count : _) (parent child : KeptCertificate) (e : CertError) → IsOfNoRoot e
+    → IsFirstBroken (link_rules judge w count parent child) e → ⊥
 no_link_lacks_root judge w count parent child e no_root (inl broken) = let other = broken.returned in cc
 no_link_lacks_root judge w count parent child e no_root (inr (a, inl broken)) = let other = broken.returned in cc
 no_link_lacks_root judge w count parent child e no_root (inr (a, inr (b, inl broken))) = let other = broken.returned in cc
@@ -86,18 +89,28 @@ module _ {S : Type 0} (judge : Judge) (steps : S → Option (Bor KeptCertificate
 
   module _ (dated : IsDated checks) (valid : IsWithinWindow checks.window checked.elements) where
     pub unlooked : (chain : Option S) → checks.chain ≡ false → WasAccepted judge steps checks checked chain
-    unlooked chain off = record { given = None; walked = λ asked. absurd (false≢true (sym off ∙ asked)); accepted = unasked judge checks checked None dated valid off }
+    unlooked chain off = record {
+      given = None;
+      walked = λ asked. absurd (false≢true (sym off ∙ asked));
+      accepted = unasked judge checks checked None dated valid off;
+    }
 
     module _ (asked : IsTrue checks.chain) where
       pub chainless : (chain : Option S) → chain ≡ None → Refused chain (errors.MissingBuilderArgument arguments.Chain)
-      chainless None none = inl (record { given = None; came = refl; ended = λ no_root. absurd cc; broken = lacking_chain judge checks checked None dated valid asked refl })
+      chainless None none = inl (record {
+        given = None;
+        came = refl;
+        ended = λ no_root. absurd cc;
+        broken = lacking_chain judge checks checked None dated valid asked refl;
+      })
       chainless (Some chain) none = absurd cc
 
       module _ (chain : Option S) (iterator : S) (is : chain ≡ Some iterator) where
         so_far : (xs : List (Bor KeptCertificate)) (rest : S) → Yields steps iterator xs rest → GaveSoFar steps chain (Some (map lent xs))
         so_far xs rest ran = subst (λ (c : Option S). GaveSoFar steps c (Some (map lent xs))) (sym is) (xs, rest, ran, refl)
 
-        unlinked_walk : (e : CertError) (xs : List (Bor KeptCertificate)) (rest : S) → Yields steps iterator xs rest → IsFirstUnlinked judge checks.window checked (map lent xs) e
+        unlinked_walk : (e : CertError) (xs : List (Bor KeptCertificate)) (rest : S) → Yields steps iterator xs rest
+            → IsFirstUnlinked judge checks.window checked (map lent xs) e
             → WasRefused judge steps checks checked chain e
         unlinked_walk e xs rest ran first = record {
           given = Some (map lent xs);
@@ -106,7 +119,8 @@ module _ {S : Type 0} (judge : Judge) (steps : S → Option (Bor KeptCertificate
           broken = unlinked_over judge checks checked (Some (map lent xs)) dated valid asked (map lent xs) refl e first;
         }
 
-        pub refused_walk : (e : CertError) → OrMemory errors.Memory (λ (e : CertError). (xs : List (Bor KeptCertificate)) × (rest : S) × Yields steps iterator xs rest × IsFirstUnlinked judge checks.window checked (map lent xs) e) e
+        pub refused_walk : (e : CertError) → OrMemory errors.Memory (λ (e : CertError). (xs : List (Bor KeptCertificate)) × (rest : S)
+            × Yields steps iterator xs rest × IsFirstUnlinked judge checks.window checked (map lent xs) e) e
             → Refused chain e
         refused_walk e (inl (xs, rest, ran, first)) = inl (unlinked_walk e xs rest ran first)
         refused_walk e (inr memory) = inr memory
@@ -116,12 +130,16 @@ module _ {S : Type 0} (judge : Judge) (steps : S → Option (Bor KeptCertificate
           all_came = record { iterator = iterator; parents = xs; is = is; ended = ran; are = refl }
 
           returned : {X : Type 0} (r : Result X CertError)
-              → MatchResult r (λ _. IsAccepted judge checks checked (Some (map lent xs))) (IsFirstBroken (chain_rules judge checks checked (Some (map lent xs))))
+              → MatchResult r (λ _. IsAccepted judge checks checked (Some (map lent xs)))
+              (IsFirstBroken (chain_rules judge checks checked (Some (map lent xs))))
               → MatchResult r (λ _. WasAccepted judge steps checks checked chain) (Refused chain)
           returned (Ok v) accepted = record { given = Some (map lent xs); walked = λ _. all_came; accepted = accepted }
           returned (Err e) broken = inl (record { given = Some (map lent xs); came = so_far xs ran.1.0 ran.1.1; ended = λ _. all_came; broken = broken })
 
-          pub walk : {X : Type 0} (last : CertType) (r : Result X CertError) → IsLinkedChain judge checks.window checked (map lent xs) → IsOfType (last_of checked (map lent xs)).elements last
-              → MatchResult r (λ _. IsTrue checks.root → last ≡ types.Root) (λ e. IsTrue checks.root × (last ≢ types.Root) × (e ≡ errors.InvalidChain chain_errors.NoRoot))
+          pub walk : {X : Type 0} (last : CertType) (r : Result X CertError) → IsLinkedChain judge checks.window checked (map lent xs)
+              → IsOfType (last_of checked (map lent xs)).elements last
+              → MatchResult r (λ _. IsTrue checks.root → last ≡ types.Root)
+              (λ e. IsTrue checks.root × (last ≢ types.Root) × (e ≡ errors.InvalidChain chain_errors.NoRoot))
               → MatchResult r (λ _. WasAccepted judge steps checks checked chain) (Refused chain)
-          walk last r linked is_last h = returned r (verdict_over judge checks checked (Some (map lent xs)) dated valid asked (map lent xs) refl linked last r is_last h)
+          walk last r linked is_last h =
+              returned r (verdict_over judge checks checked (Some (map lent xs)) dated valid asked (map lent xs) refl linked last r is_last h)

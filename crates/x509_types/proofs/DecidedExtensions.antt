@@ -98,7 +98,8 @@ named_or_not oid element =
 -- ---- the first with an OID
 
 -- which is the first, or that none is
-pub first_or_not : (oid : List ℕ) (elements : List DerElement) → ((octets : List ℕ) × IsFirstNamed oid elements octets) ⊎ ((octets : List ℕ) → IsFirstNamed oid elements octets → ⊥)
+pub first_or_not : (oid : List ℕ) (elements : List DerElement)
+    → ((octets : List ℕ) × IsFirstNamed oid elements octets) ⊎ ((octets : List ℕ) → IsFirstNamed oid elements octets → ⊥)
 first_or_not oid [] = inr (λ octets first. none_first oid [] octets refl first)
 first_or_not oid (element ∷ elements) =
     elim (named_or_not oid element) [

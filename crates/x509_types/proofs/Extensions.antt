@@ -25,7 +25,8 @@ pub bad_critical : (element : DerElement) (all rest : List DerElement) (first oi
     (b : Bool) (octets : List ℕ) → element ≡ sequence all → all ≡ first ∷ rest → HasBadFlag rest
     → IsExtensionOf element oid b octets → ⊥
 bad_critical element all rest first oid b octets holds are bad is =
-    let kids : first ∷ rest ≡ oid ∷ (is.flag ++ Primitive 0x04 octets ∷ []) = sym are ∙ same_fields all (oid ∷ (is.flag ++ Primitive 0x04 octets ∷ [])) (sym holds ∙ is.is) in
+    let kids : first ∷ rest ≡ oid ∷ (is.flag ++ Primitive 0x04 octets ∷ []) =
+    sym are ∙ same_fields all (oid ∷ (is.flag ++ Primitive 0x04 octets ∷ [])) (sym holds ∙ is.is) in
     let behind : rest ≡ is.flag ++ Primitive 0x04 octets ∷ [] = cc in
     bad_in is.flag octets b bad.kid bad.rest (sym bad.are ∙ behind) is.flagged bad.tagged bad.none
 
@@ -34,12 +35,14 @@ pub first_field : (element : DerElement) (all rest : List DerElement) (first oid
     (b : Bool) (octets : List ℕ) → element ≡ sequence all → all ≡ first ∷ rest
     → IsExtensionOf element oid b octets → first ≡ oid
 first_field element all rest first oid b octets holds are is =
-    let kids : first ∷ rest ≡ oid ∷ (is.flag ++ Primitive 0x04 octets ∷ []) = sym are ∙ same_fields all (oid ∷ (is.flag ++ Primitive 0x04 octets ∷ [])) (sym holds ∙ is.is) in
+    let kids : first ∷ rest ≡ oid ∷ (is.flag ++ Primitive 0x04 octets ∷ []) =
+    sym are ∙ same_fields all (oid ∷ (is.flag ++ Primitive 0x04 octets ∷ [])) (sym holds ∙ is.is) in
     cc
 
 -- an extension has fields
 pub some_fields : (element : DerElement) (all : List DerElement) (oid : DerElement) (b : Bool)
     (octets : List ℕ) → element ≡ sequence all → all ≡ [] → IsExtensionOf element oid b octets → ⊥
 some_fields element all oid b octets holds are is =
-    let kids : [] ≡ oid ∷ (is.flag ++ Primitive 0x04 octets ∷ []) = sym are ∙ same_fields all (oid ∷ (is.flag ++ Primitive 0x04 octets ∷ [])) (sym holds ∙ is.is) in
+    let kids : [] ≡ oid ∷ (is.flag ++ Primitive 0x04 octets ∷ []) =
+    sym are ∙ same_fields all (oid ∷ (is.flag ++ Primitive 0x04 octets ∷ [])) (sym holds ∙ is.is) in
     absurd cc

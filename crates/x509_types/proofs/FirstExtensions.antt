@@ -23,14 +23,16 @@ listed_of (Constructed tag ks) kids e = cc
 pub none_lent : (lent : Option Elem) (given : Option DerElement) → at_option lent ≡ given → lent ≡ None → members_of given ≡ []
 none_lent lent given e none = ap members_of (sym e ∙ ap at_option none)
 
-pub lent_kids : {K : Type 0} (now : K → List DerElement) (r : Option K) (lent : Option Elem) (elem : Elem) (given : Option DerElement) → at_option lent ≡ given → lent ≡ Some elem
+pub lent_kids : {K : Type 0} (now : K → List DerElement) (r : Option K) (lent : Option Elem) (elem : Elem) (given : Option DerElement) → at_option lent ≡ given
+    → lent ≡ Some elem
     → MatchOption r (kids_of elem.is.0 ≡ None) (λ k. kids_of elem.is.0 ≡ Some (now k)) → MatchOption r (members_of given ≡ []) (λ k. members_of given ≡ now k)
 lent_kids now None lent elem given e is none = ap members_of (sym e ∙ ap at_option is) ∙ none_listed elem.is.0 none
 lent_kids now (Some k) lent elem given e is kids = ap members_of (sym e ∙ ap at_option is) ∙ listed_of elem.is.0 (now k) kids
 
 -- ---- the first with an OID
 
-pub first_here : (oid : List ℕ) (all rest : List DerElement) (kid : DerElement) (octets : List ℕ) → all ≡ kid ∷ rest → IsNamed oid kid octets → IsFirstNamed oid all octets
+pub first_here : (oid : List ℕ) (all rest : List DerElement) (kid : DerElement) (octets : List ℕ) → all ≡ kid ∷ rest → IsNamed oid kid octets
+    → IsFirstNamed oid all octets
 first_here oid all rest kid octets are named = record { before = []; extension = kid; after = rest; are = are; first = tt; named = named }
 
 pub first_later : (oid : List ℕ) (all rest : List DerElement) (kid : DerElement) → all ≡ kid ∷ rest
@@ -97,7 +99,8 @@ value_once f oid a b p q =
 -- ---- values
 
 -- what the element says, the first extension says
-pub said : {X R : Type 0} (now : R → X) (oid : List ℕ) (part : DerElement → X → Type 0) (f : CertificateElements) (element : DerElement) (r : Option R) → IsFirstValue f oid element
+pub said : {X R : Type 0} (now : R → X) (oid : List ℕ) (part : DerElement → X → Type 0) (f : CertificateElements) (element : DerElement) (r : Option R)
+    → IsFirstValue f oid element
     → MatchOption r ((x : X) → part element x → ⊥) (λ x. part element (now x)) → MatchOption r ((x : X) → Says oid part f x → ⊥) (λ x. Says oid part f (now x))
 said now oid part f element None first none = λ x says. none x (subst (λ (e : DerElement). part e x) (value_once f oid says.0 element says.1 first) says.2)
 said now oid part f element (Some x) first says = (element, first, says)

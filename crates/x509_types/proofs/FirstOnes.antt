@@ -19,11 +19,13 @@ same_contents : (x y : List ℕ) → Primitive 0x06 x ≡ Primitive 0x06 y → x
 same_contents x y e = cc
 
 -- an element that encodes an extension has its OID
-is_named : (oid : List ℕ) (element : DerElement) (e : Extension) (is : IsExtension element e) → identifier_contents e.extn_id ≡ oid → IsNamed oid element is.octets
+is_named : (oid : List ℕ) (element : DerElement) (e : Extension) (is : IsExtension element e) → identifier_contents e.extn_id ≡ oid
+    → IsNamed oid element is.octets
 is_named oid element e is same = (e.critical, subst (λ (o : List ℕ). IsExtensionOf element (Primitive 0x06 o) e.critical is.octets) same is.fields)
 
 -- and no other, with no other octets
-same_named : (oid : List ℕ) (element : DerElement) (e : Extension) (octets : List ℕ) (is : IsExtension element e) → IsNamed oid element octets → (identifier_contents e.extn_id ≡ oid) × (is.octets ≡ octets)
+same_named : (oid : List ℕ) (element : DerElement) (e : Extension) (octets : List ℕ) (is : IsExtension element e) → IsNamed oid element octets
+    → (identifier_contents e.extn_id ≡ oid) × (is.octets ≡ octets)
 same_named oid element e octets is named =
     let fields = fields_once element (object_identifier e.extn_id) (Primitive 0x06 oid) e.critical named.0 is.octets octets is.fields named.1 in
     (same_contents (identifier_contents e.extn_id) oid fields.0, fields.2)
@@ -54,7 +56,8 @@ had_in oid (k ∷ before) x after octets (e ∷ extensions) each first named =
     }
 
 lies_in : (oid : List ℕ) (elements : List DerElement) (before : List Extension) (e : Extension) (after : List Extension)
-    → AreEach IsExtension elements (before ++ e ∷ after) → NoneHas oid before → identifier_contents e.extn_id ≡ oid → (octets : List ℕ) × IsFirstNamed oid elements octets × IsValueIn octets e.extn_value
+    → AreEach IsExtension elements (before ++ e ∷ after) → NoneHas oid before → identifier_contents e.extn_id ≡ oid
+    → (octets : List ℕ) × IsFirstNamed oid elements octets × IsValueIn octets e.extn_value
 lies_in oid [] [] e after each first named = absurd each
 lies_in oid [] (b ∷ before) e after each first named = absurd each
 lies_in oid (k ∷ elements) [] e after each first named = (
@@ -77,17 +80,21 @@ lies_in oid (k ∷ elements) (b ∷ before) e after each first named =
     )
 
 -- the elements in the list encode the extensions
-pub listed_each : (given : Option DerElement) (extensions : Option (List Extension)) → SpellsOption IsExtensions given extensions → AreEach IsExtension (members_of given) (extensions_in extensions)
+pub listed_each : (given : Option DerElement) (extensions : Option (List Extension)) → SpellsOption IsExtensions given extensions
+    → AreEach IsExtension (members_of given) (extensions_in extensions)
 listed_each None None is = tt
 listed_each None (Some extensions) is = absurd is
 listed_each (Some element) None is = absurd is
 listed_each (Some element) (Some extensions) is =
-    subst (λ (ks : List DerElement). AreEach IsExtension ks extensions) (sym (ap (λ (e : DerElement). members_of (Some e)) is.holds ∙ listed-row is.kids)) is.each
+    subst (λ (ks : List DerElement). AreEach IsExtension ks extensions)
+    (sym (ap (λ (e : DerElement). members_of (Some e)) is.holds ∙ listed-row is.kids)) is.each
 
-pub had : (oid : List ℕ) (elements : List DerElement) (extensions : List Extension) (octets : List ℕ) → AreEach IsExtension elements extensions → IsFirstNamed oid elements octets → HoldFirst oid extensions octets
+pub had : (oid : List ℕ) (elements : List DerElement) (extensions : List Extension) (octets : List ℕ) → AreEach IsExtension elements extensions
+    → IsFirstNamed oid elements octets → HoldFirst oid extensions octets
 had oid elements extensions octets each f =
     had_in oid f.before f.extension f.after octets extensions (subst (λ (ks : List DerElement). AreEach IsExtension ks extensions) f.are each) f.first f.named
 
-pub lies : (oid : List ℕ) (elements : List DerElement) (extensions : List Extension) (e : Extension) → AreEach IsExtension elements extensions → IsFirstWith oid extensions e
+pub lies : (oid : List ℕ) (elements : List DerElement) (extensions : List Extension) (e : Extension) → AreEach IsExtension elements extensions
+    → IsFirstWith oid extensions e
     → (octets : List ℕ) × IsFirstNamed oid elements octets × IsValueIn octets e.extn_value
 lies oid elements extensions e each f = lies_in oid elements f.before e f.after (subst (AreEach IsExtension elements) f.are each) f.first f.named

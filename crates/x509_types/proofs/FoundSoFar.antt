@@ -45,8 +45,10 @@ tested now oid known all rest more kid octets false test are named found =
     (λ v other. let no : IsTrue false = test.1 (one_oid kid oid known (now octets) v named other) in cc) found
 
 -- it has this OID
-pub found_here : {R : Type 0} (now : R → List ℕ) (oid known : List ℕ) (all rest more : List DerElement) (kid : DerElement) (x : Option R) (octets : R) (y : Option R)
-    → y ≡ found_or x (bytes_eq oid known) octets → rest ≡ kid ∷ more → IsNamed oid kid (now octets) → IsFound now known all rest x → IsFound now known all more y
+pub found_here : {R : Type 0} (now : R → List ℕ) (oid known : List ℕ) (all rest more : List DerElement) (kid : DerElement) (x : Option R) (octets : R)
+    (y : Option R)
+    → y ≡ found_or x (bytes_eq oid known) octets → rest ≡ kid ∷ more → IsNamed oid kid (now octets) → IsFound now known all rest x
+    → IsFound now known all more y
 found_here now oid known all rest more kid (Some r) octets y is are named found = rw is found
 found_here now oid known all rest more kid None octets y is are named found =
     rw is (tested now oid known all rest more kid octets (bytes_eq oid known) (bytes_eq-Decides oid known) are named found)
@@ -86,11 +88,13 @@ some_purposes f oid names =
 -- ---- what they say
 
 -- no element is in the octets of the first
-pub unheld : {X : Type 0} (oid : List ℕ) (part : DerElement → X → Type 0) (f : CertificateElements) (octets : List ℕ) (x : X) → IsFirstNamed oid (extensions_of f) octets
+pub unheld : {X : Type 0} (oid : List ℕ) (part : DerElement → X → Type 0) (f : CertificateElements) (octets : List ℕ) (x : X)
+    → IsFirstNamed oid (extensions_of f) octets
     → ((element : DerElement) → IsKept octets element → ⊥) → Says oid part f x → ⊥
 unheld oid part f octets x first none says =
     none says.0 (subst (λ (o : List ℕ). IsKept o says.0) (first_once oid (extensions_of f) says.1.octets octets says.1.first first) says.1.holds)
 
 -- the element in the octets of the first
-pub held : (oid : List ℕ) (f : CertificateElements) (octets : List ℕ) (element : DerElement) → IsFirstNamed oid (extensions_of f) octets → IsKept octets element → IsFirstValue f oid element
+pub held : (oid : List ℕ) (f : CertificateElements) (octets : List ℕ) (element : DerElement) → IsFirstNamed oid (extensions_of f) octets → IsKept octets element
+    → IsFirstValue f oid element
 held oid f octets element first holds = record { octets = octets; first = first; holds = holds }

@@ -23,16 +23,20 @@ same_contents : (tag : ℕ) (x y : List ℕ) → Primitive tag x ≡ Primitive t
 same_contents tag x y e = cc
 
 -- octets that aren't the contents of a UTCTime aren't those of a time under its tag
-pub no_utc : (element : DerElement) (contents : List ℕ) → element ≡ Primitive 0x17 contents → ((moment : UTCTime) → contents ≢ utc_contents moment) → (value : Time) → element ≢ time value
+pub no_utc : (element : DerElement) (contents : List ℕ) → element ≡ Primitive 0x17 contents → ((moment : UTCTime) → contents ≢ utc_contents moment)
+    → (value : Time) → element ≢ time value
 no_utc element contents is none (forms.Utc moment) e = none moment (same_contents 0x17 contents (utc_contents moment) (sym is ∙ e))
-no_utc element contents is none (forms.Generalized moment) e = unlike_tags (Primitive 0x17 contents) (generalized_time moment) (λ t. omega (arith, t)) (sym is ∙ e)
+no_utc element contents is none (forms.Generalized moment) e =
+    unlike_tags (Primitive 0x17 contents) (generalized_time moment) (λ t. omega (arith, t)) (sym is ∙ e)
 
-pub no_generalized : (element : DerElement) (contents : List ℕ) → element ≡ Primitive 0x18 contents → ((moment : GeneralizedTime) → contents ≢ generalized_contents moment) → (value : Time) → element ≢ time value
+pub no_generalized : (element : DerElement) (contents : List ℕ) → element ≡ Primitive 0x18 contents
+    → ((moment : GeneralizedTime) → contents ≢ generalized_contents moment) → (value : Time) → element ≢ time value
 no_generalized element contents is none (forms.Utc moment) e = unlike_tags (Primitive 0x18 contents) (utc_time moment) (λ t. omega (arith, t)) (sym is ∙ e)
 no_generalized element contents is none (forms.Generalized moment) e = none moment (same_contents 0x18 contents (generalized_contents moment) (sym is ∙ e))
 
 -- an element with neither tag isn't a time
-pub no_time : (element : DerElement) → ((contents : List ℕ) → element ≢ Primitive 0x17 contents) → ((contents : List ℕ) → element ≢ Primitive 0x18 contents) → (value : Time) → element ≢ time value
+pub no_time : (element : DerElement) → ((contents : List ℕ) → element ≢ Primitive 0x17 contents) → ((contents : List ℕ) → element ≢ Primitive 0x18 contents)
+    → (value : Time) → element ≢ time value
 no_time element utc generalized (forms.Utc moment) e = utc (utc_contents moment) e
 no_time element utc generalized (forms.Generalized moment) e = generalized (generalized_contents moment) e
 
@@ -40,12 +44,15 @@ same_two : (a b x y : DerElement) → sequence (a ∷ b ∷ []) ≡ sequence (x 
 same_two a b x y e = (cc, cc)
 
 -- a validity has its two times
-pub ends_of : (element first second : DerElement) (value : Validity) → element ≡ sequence (first ∷ second ∷ []) → element ≡ validity value → (first ≡ time value.not_before) × (second ≡ time value.not_after)
+pub ends_of : (element first second : DerElement) (value : Validity) → element ≡ sequence (first ∷ second ∷ []) → element ≡ validity value
+    → (first ≡ time value.not_before) × (second ≡ time value.not_after)
 ends_of element first second value is e = same_two first second (time value.not_before) (time value.not_after) (sym is ∙ e)
 
 -- the second kid of a key and its algorithm is that of the key
-pub key_of : (element algorithm key : DerElement) (info : SubjectPublicKeyInfo) → element ≡ sequence (algorithm ∷ key ∷ []) → element ≡ public_key_info info → key ≡ subject_public_key info.subject_public_key
-key_of element algorithm key info is e = (same_two algorithm key (algorithm_identifier info.algorithm) (subject_public_key info.subject_public_key) (sym is ∙ e)).1
+pub key_of : (element algorithm key : DerElement) (info : SubjectPublicKeyInfo) → element ≡ sequence (algorithm ∷ key ∷ []) → element ≡ public_key_info info
+    → key ≡ subject_public_key info.subject_public_key
+key_of element algorithm key info is e =
+    (same_two algorithm key (algorithm_identifier info.algorithm) (subject_public_key info.subject_public_key) (sym is ∙ e)).1
 
 -- the element of a key is a BIT STRING, whose contents begin with a count of unused bits
 pub bits_stand : (key : SubjectKey) → (unused : ℕ) × (subject_public_key key ≡ Primitive 0x03 (unused ∷ key_payload key))
@@ -55,7 +62,8 @@ bits_stand (keys.Ed bits) = (bits.unused, refl)
 bits_stand (keys.Mldsa bits) = (bits.unused, refl)
 
 -- an element that isn't a BIT STRING, or has no contents, isn't a key's
-pub no_bits : (element algorithm key : DerElement) (info : SubjectPublicKeyInfo) → element ≡ sequence (algorithm ∷ key ∷ []) → ((contents : List ℕ) → key ≢ Primitive 0x03 contents) → element ≡ public_key_info info → ⊥
+pub no_bits : (element algorithm key : DerElement) (info : SubjectPublicKeyInfo) → element ≡ sequence (algorithm ∷ key ∷ [])
+    → ((contents : List ℕ) → key ≢ Primitive 0x03 contents) → element ≡ public_key_info info → ⊥
 no_bits element algorithm key info is none e =
     let stands = bits_stand info.subject_public_key in
     none (stands.0 ∷ key_payload info.subject_public_key) (key_of element algorithm key info is e ∙ stands.1)

@@ -18,10 +18,12 @@ by_three element tbs algorithm value c is spelled =
     (bit_string c.signature_value) tbs algorithm value (sym (three_of element c spelled) ∙ is) in
     (subst (λ (e : DerElement). IsTbsCertificate e c.tbs_certificate) same.0 (signed_in element c spelled), sym same.1, sym same.2)
 
-pub of_three : (element tbs algorithm value : DerElement) (c : Certificate) → element ≡ sequence (tbs ∷ algorithm ∷ value ∷ []) → IsTbsCertificate tbs c.tbs_certificate
+pub of_three : (element tbs algorithm value : DerElement) (c : Certificate) → element ≡ sequence (tbs ∷ algorithm ∷ value ∷ [])
+    → IsTbsCertificate tbs c.tbs_certificate
     → algorithm ≡ algorithm_identifier c.signature_algorithm → value ≡ bit_string c.signature_value → IsCertificate element c
 of_three element tbs algorithm value c is signed a b = record {
   elements = record { tbs = signed.elements; algorithm = algorithm; unused = c.signature_value.unused; signature = c.signature_value.payload };
-  is = is ∙ ap (λ (x : DerElement). sequence (x ∷ algorithm ∷ value ∷ [])) signed.is ∙ ap (λ (x : DerElement). sequence (tbs_of signed.elements ∷ algorithm ∷ x ∷ [])) b;
+  is = is ∙ ap (λ (x : DerElement). sequence (x ∷ algorithm ∷ value ∷ [])) signed.is
+      ∙ ap (λ (x : DerElement). sequence (tbs_of signed.elements ∷ algorithm ∷ x ∷ [])) b;
   spelled = record { tbs = signed.spelled; algorithm = a; signature = refl };
 }

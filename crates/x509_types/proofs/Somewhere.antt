@@ -15,7 +15,8 @@ some_later Is all rest kid are s = record {
   is = s.is;
 }
 
-passed_in : (Is : DerElement → Type 0) (rest before after : List DerElement) (kid x : DerElement) → kid ∷ rest ≡ before ++ x ∷ after → (Is kid → ⊥) → Is x → HasSome Is rest
+passed_in : (Is : DerElement → Type 0) (rest before after : List DerElement) (kid x : DerElement) → kid ∷ rest ≡ before ++ x ∷ after → (Is kid → ⊥) → Is x
+    → HasSome Is rest
 passed_in Is rest [] after kid x e none is =
     let same : x ≡ kid = cc in
     absurd (none (subst Is same is))
@@ -23,7 +24,8 @@ passed_in Is rest (b ∷ before) after kid x e none is =
     let are : rest ≡ before ++ x ∷ after = cc in
     record { before = before; element = x; after = after; are = are; is = is }
 
-pub some_passed : (Is : DerElement → Type 0) (all rest : List DerElement) (kid : DerElement) → all ≡ kid ∷ rest → (Is kid → ⊥) → HasSome Is all → HasSome Is rest
+pub some_passed : (Is : DerElement → Type 0) (all rest : List DerElement) (kid : DerElement) → all ≡ kid ∷ rest → (Is kid → ⊥) → HasSome Is all
+    → HasSome Is rest
 some_passed Is all rest kid are none s = passed_in Is rest s.before s.after kid s.element (sym are ∙ s.are) none s.is
 
 none_in : (before after : List DerElement) (x : DerElement) → [] ≡ before ++ x ∷ after → ⊥

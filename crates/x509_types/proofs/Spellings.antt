@@ -11,11 +11,12 @@ use Rattle.der_core.specs.Structure.{IsWithin}
 use Rattle.der_core.specs.Default.{IsDefaultFalse}
 use Rattle.asn1_types.specs.Elements.{object_identifier}
 use Rattle.der_core.specs.Default.{default_false}
-use Rattle.extension_types.specs.BasicConstraints.{basic_constraints, IsBasicConstraints}
+use Rattle.extension_types.specs.BasicConstraints.{IsBasicConstraints}
 use Rattle.extension_types.specs.Facts.Constraints.{true_or_not_der, constraints_spelled}
 use Rattle.extension_types.specs.declared.basic_constraints.BasicConstraints.{BasicConstraints}
 use Rattle.x509_types.specs.ExtensionView.{value_octets, IsValueIn}
 use Rattle.x509_types.specs.Extension.{IsExtension}
+use Rattle.x509_types.specs.Facts.ExtensionViews.{written_or_constraints}
 use Rattle.x509_types.specs.ExtensionSpellings.{HasOtherFlag, HasOtherConstraints, IsSpelling}
 use Rattle.x509_types.specs.TbsCertificate.{IsExtensions}
 use Rattle.x509_types.specs.AttributeValues.{AreAttributeValues}
@@ -28,7 +29,8 @@ use Rattle.x509_types.specs.declared.extension.Extension.{Extension}
 use Rattle.x509_types.specs.declared.extension.view.ExtensionView.{ExtensionView}
 use Rattle.x509_types.specs.declared.extension.view.ExtensionView.TheVariants as views
 
-flag_stands : (element oid : DerElement) (critical : Bool) (octets : List ℕ) (flag : List DerElement) → element ≡ sequence (oid ∷ (flag ++ Primitive 0x04 octets ∷ [])) → IsDefaultFalse flag critical
+flag_stands : (element oid : DerElement) (critical : Bool) (octets : List ℕ) (flag : List DerElement)
+    → element ≡ sequence (oid ∷ (flag ++ Primitive 0x04 octets ∷ [])) → IsDefaultFalse flag critical
     → (flag ≡ default_false critical) ⊎ HasOtherFlag element oid critical octets
 flag_stands element oid critical octets [] is flagged = inl (subst (λ (b : Bool). [] ≡ default_false b) (sym flagged) refl)
 flag_stands element oid critical octets (kid ∷ []) is flagged =
@@ -43,25 +45,20 @@ flag_stands element oid critical octets (kid ∷ []) is flagged =
     ]
 flag_stands element oid critical octets (kid ∷ more ∷ kids) is flagged = absurd flagged
 
-written_octets : {X : Type 0} (written : X → DerElement) (octets : List ℕ) (value : X) → IsWithin (λ (element : DerElement) (x : X). element ≡ written x) octets value → octets ≡ encoding (written value)
-written_octets written octets value within = within.encoded ∙ ap encoding within.spelled
-
-constraints_stand : (octets : List ℕ) (b : BasicConstraints) → IsWithin IsBasicConstraints octets b → (octets ≡ encoding (basic_constraints b)) ⊎ HasOtherConstraints octets (views.BasicConstraints b)
-constraints_stand octets b within =
+constraints_stand : (octets : List ℕ) (view : ExtensionView) (b : BasicConstraints) → view ≡ views.BasicConstraints b → IsWithin IsBasicConstraints octets b
+    → (octets ≡ value_octets view) ⊎ HasOtherConstraints octets view
+constraints_stand octets view b valued within =
     elim (constraints_spelled within.element b within.spelled) [
-      | inl same ↦ inl (within.encoded ∙ ap encoding same)
-      | inr other ↦ inr (record { element = within.element; constraints = b; other = other; valued = refl; are = within.encoded })
+      | inl same ↦ inl (within.encoded ∙ ap encoding same ∙ ap value_octets (sym valued))
+      | inr other ↦ inr (record { element = within.element; constraints = b; other = other; valued = valued; are = within.encoded })
     ]
 
 value_stands : (octets : List ℕ) (view : ExtensionView) → IsValueIn octets view → (octets ≡ value_octets view) ⊎ HasOtherConstraints octets view
-value_stands octets (views.SubjectKeyIdentifier x) within = inl (written_octets _ octets _ within)
-value_stands octets (views.KeyUsage x) within = inl (written_octets _ octets x within)
-value_stands octets (views.SubjectAltName x) within = inl (written_octets _ octets x within)
-value_stands octets (views.IssuerAltName x) within = inl (written_octets _ octets x within)
-value_stands octets (views.BasicConstraints x) within = constraints_stand octets x within
-value_stands octets (views.AuthorityKeyIdentifier x) within = inl (written_octets _ octets x within)
-value_stands octets (views.ExtendedKeyUsage x) within = inl (written_octets _ octets x within)
-value_stands octets (views.Raw x) same = inl same
+value_stands octets view value =
+    elim (written_or_constraints octets view value) [
+      | inl same ↦ inl same
+      | inr (b, valued, within) ↦ constraints_stand octets view b valued within
+    ]
 
 pub extension_spelling : (element : DerElement) (e : Extension) → IsExtension element e → IsSpelling element e
 extension_spelling element e is = record {
@@ -82,7 +79,8 @@ each_spelling (element ∷ elements) (e ∷ es) each = (extension_spelling eleme
 pub list_spelling : (element : DerElement) (es : List Extension) → IsExtensions element es → IsListOf 0x30 IsSpelling element es
 list_spelling element es is = record { kids = is.kids; holds = is.holds; each = each_spelling is.kids es is.each }
 
-each_list : (elements : List DerElement) (lists : List (List Extension)) → AreEach IsExtensions elements lists → AreEach (IsListOf 0x30 IsSpelling) elements lists
+each_list : (elements : List DerElement) (lists : List (List Extension)) → AreEach IsExtensions elements lists
+    → AreEach (IsListOf 0x30 IsSpelling) elements lists
 each_list [] [] each = tt
 each_list [] (es ∷ lists) each = absurd each
 each_list (element ∷ elements) [] each = absurd each

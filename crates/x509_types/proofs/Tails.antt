@@ -36,7 +36,8 @@ pub behind_version : (element : DerElement) (all rest : List DerElement)
     (version : Option DerElement) (f : TbsElements) → element ≡ sequence all
     → TakesExplicit 0xA0 all version rest → element ≡ tbs_of f → rest ≡ behind f
 behind_version element all rest version f holds takes is =
-    explicit_gone 0xA0 all rest (behind f) version f.version takes (same_fields all (optional_explicit 0xA0 f.version ++ behind f) (sym holds ∙ is)) (λ none e. omega (arith, e))
+    explicit_gone 0xA0 all rest (behind f) version f.version takes (same_fields all (optional_explicit 0xA0 f.version ++ behind f) (sym holds ∙ is))
+    (λ none e. omega (arith, e))
 
 pub behind_issuer : {R : Type 0} (now : R → List ℕ) (found : Option R) (all rest : List DerElement) (f : TbsElements)
     → MatchOption found ((rest ≡ all) × BeginsOtherwise 0x81 all)
@@ -52,7 +53,8 @@ pub behind_subject : {R : Type 0} (now : R → List ℕ) (found : Option R) (all
     (λ x. all ≡ Primitive 0x82 (now x) ∷ rest)
     → all ≡ optional_leaf 0x82 f.subject_unique_id ++ optional_explicit 0xA3 f.extensions
     → rest ≡ optional_explicit 0xA3 f.extensions
-behind_subject now found all rest f taken is = leaf_gone now 0x82 found all rest (optional_explicit 0xA3 f.extensions) f.subject_unique_id taken is (no_subject f.extensions)
+behind_subject now found all rest f taken is =
+    leaf_gone now 0x82 found all rest (optional_explicit 0xA3 f.extensions) f.subject_unique_id taken is (no_subject f.extensions)
 
 -- an element of the tag that doesn't hold exactly one isn't that of extensions
 pub no_bad_tagging : (all : List DerElement) (given : Option DerElement) → HasBadTagging 0xA3 all → all ≡ optional_explicit 0xA3 given → ⊥
@@ -63,7 +65,8 @@ no_bad_tagging all (Some x) bad is =
     bad.none x same
 
 -- nothing follows the extensions
-pub no_more : (all rest : List DerElement) (kid given : Option DerElement) → TakesExplicit 0xA3 all kid rest → HasMore rest → all ≡ optional_explicit 0xA3 given → ⊥
+pub no_more : (all rest : List DerElement) (kid given : Option DerElement) → TakesExplicit 0xA3 all kid rest → HasMore rest
+    → all ≡ optional_explicit 0xA3 given → ⊥
 no_more all rest kid given takes more is =
     let none : rest ≡ [] = explicit_gone 0xA3 all rest [] kid given takes (is ∙ sym (append-nil (optional_explicit 0xA3 given))) (λ e. tt) in
     let e : more.kid ∷ more.rest ≡ [] = sym more.are ∙ none in

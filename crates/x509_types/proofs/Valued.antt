@@ -29,7 +29,8 @@ use Rattle.x509_types.proofs.Same.{equal, equal_same}
 -- ---- values of a kind are a list of the kind's own
 
 abbrev Held : AttributeKind → DerElement → Type 0
-Held kinds.ContentType element = (types : List ObjectIdentifier) × IsListOf 0x31 (λ (kid : DerElement) (id : ObjectIdentifier). kid ≡ object_identifier id) element types
+Held kinds.ContentType element =
+    (types : List ObjectIdentifier) × IsListOf 0x31 (λ (kid : DerElement) (id : ObjectIdentifier). kid ≡ object_identifier id) element types
 Held kinds.MessageDigest element = (digests : List (List ℕ)) × IsListOf 0x31 (λ (kid : DerElement) (digest : List ℕ). kid ≡ octet_string digest) element digests
 Held kinds.ExtensionRequest element = (requests : List (List Extension)) × IsListOf 0x31 IsExtensions element requests
 Held kinds.Other element = (kept : List KeptElement) × IsListOf 0x31 (λ (kid : DerElement) (k : KeptElement). kid ≡ k.element) element kept
@@ -43,16 +44,20 @@ held element (values.Raw x) are = (x, are)
 held_of : (kind named : AttributeKind) (element : DerElement) (vs : AttributeValues) → kind ≡ named → AreValuesOf kind element vs → Held named element
 held_of kind named element vs is of = subst (λ (k : AttributeKind). Held k element) (of.0 ∙ is) (held element vs of.1)
 
-pub types_of : (kind : AttributeKind) (element : DerElement) (vs : AttributeValues) → kind ≡ kinds.ContentType → AreValuesOf kind element vs → (types : List ObjectIdentifier) × IsListOf 0x31 (λ (kid : DerElement) (id : ObjectIdentifier). kid ≡ object_identifier id) element types
+pub types_of : (kind : AttributeKind) (element : DerElement) (vs : AttributeValues) → kind ≡ kinds.ContentType → AreValuesOf kind element vs
+    → (types : List ObjectIdentifier) × IsListOf 0x31 (λ (kid : DerElement) (id : ObjectIdentifier). kid ≡ object_identifier id) element types
 types_of kind element vs is of = held_of kind kinds.ContentType element vs is of
 
-pub digests_of : (kind : AttributeKind) (element : DerElement) (vs : AttributeValues) → kind ≡ kinds.MessageDigest → AreValuesOf kind element vs → (digests : List (List ℕ)) × IsListOf 0x31 (λ (kid : DerElement) (digest : List ℕ). kid ≡ octet_string digest) element digests
+pub digests_of : (kind : AttributeKind) (element : DerElement) (vs : AttributeValues) → kind ≡ kinds.MessageDigest → AreValuesOf kind element vs
+    → (digests : List (List ℕ)) × IsListOf 0x31 (λ (kid : DerElement) (digest : List ℕ). kid ≡ octet_string digest) element digests
 digests_of kind element vs is of = held_of kind kinds.MessageDigest element vs is of
 
-pub requests_of : (kind : AttributeKind) (element : DerElement) (vs : AttributeValues) → kind ≡ kinds.ExtensionRequest → AreValuesOf kind element vs → (requests : List (List Extension)) × IsListOf 0x31 IsExtensions element requests
+pub requests_of : (kind : AttributeKind) (element : DerElement) (vs : AttributeValues) → kind ≡ kinds.ExtensionRequest → AreValuesOf kind element vs
+    → (requests : List (List Extension)) × IsListOf 0x31 IsExtensions element requests
 requests_of kind element vs is of = held_of kind kinds.ExtensionRequest element vs is of
 
-pub kept_of : (kind : AttributeKind) (element : DerElement) (vs : AttributeValues) → kind ≡ kinds.Other → AreValuesOf kind element vs → (kept : List KeptElement) × IsListOf 0x31 (λ (kid : DerElement) (k : KeptElement). kid ≡ k.element) element kept
+pub kept_of : (kind : AttributeKind) (element : DerElement) (vs : AttributeValues) → kind ≡ kinds.Other → AreValuesOf kind element vs
+    → (kept : List KeptElement) × IsListOf 0x31 (λ (kid : DerElement) (k : KeptElement). kid ≡ k.element) element kept
 kept_of kind element vs is of = held_of kind kinds.Other element vs is of
 
 -- ---- what is written for a list is written for the values
@@ -68,7 +73,9 @@ pub digests_written : (vs : AttributeValues) (digests : List (List ℕ)) (r : Re
     → MatchResult r (IsWrittenList 0x31 octet_string (λ digest. []) digests) (RefusesInner (flat_map (λ digest. []) digests)) → Writes r vs
 digests_written vs digests r is list = subst (λ (v : AttributeValues). Writes r v) (sym is) (plain_list octet_string 0x31 digests digests refl r list)
 
-requests_set : (requests : List (List Extension)) (r : Result DerElement DerError) → MatchResult r (IsWrittenList 0x31 extensions inner_extensions requests) (RefusesInner (flat_map inner_extensions requests)) → Writes r (values.Extensions requests)
+requests_set : (requests : List (List Extension)) (r : Result DerElement DerError)
+    → MatchResult r (IsWrittenList 0x31 extensions inner_extensions requests) (RefusesInner (flat_map inner_extensions requests))
+    → Writes r (values.Extensions requests)
 requests_set requests (Ok tree) list = (list.is, list.formed, list.bounded)
 requests_set requests (Err e) refused = refused
 

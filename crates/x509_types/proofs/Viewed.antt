@@ -41,7 +41,8 @@ all_spelled f value tbs a b v = (
   record { tbs = tbs.1; algorithm = a.1; signature = same_bits value f.unused f.signature b.0 v b.1 },
 )
 
-pub by_certificate : (element : DerElement) (f : CertificateElements) (c : Certificate) → element ≡ certificate_of f → IsCertificate element c → AreCertificateFields f c
+pub by_certificate : (element : DerElement) (f : CertificateElements) (c : Certificate) → element ≡ certificate_of f → IsCertificate element c
+    → AreCertificateFields f c
 by_certificate element f c is spelled =
     let three = by_three element (tbs_of f.tbs) f.algorithm (Primitive 0x03 (f.unused ∷ f.signature)) c is spelled in
     record {
@@ -53,9 +54,11 @@ by_certificate element f c is spelled =
     }
 
 -- the three elements in a certificate with these fields
-pub three_parts : (element tbs algorithm value : DerElement) (f : CertificateElements) → element ≡ sequence (tbs ∷ algorithm ∷ value ∷ []) → element ≡ certificate_of f
+pub three_parts : (element tbs algorithm value : DerElement) (f : CertificateElements) → element ≡ sequence (tbs ∷ algorithm ∷ value ∷ [])
+    → element ≡ certificate_of f
     → (tbs ≡ tbs_of f.tbs) × (algorithm ≡ f.algorithm) × (value ≡ Primitive 0x03 (f.unused ∷ f.signature))
-three_parts element tbs algorithm value f is around = same_three tbs algorithm value (tbs_of f.tbs) f.algorithm (Primitive 0x03 (f.unused ∷ f.signature)) (sym is ∙ around)
+three_parts element tbs algorithm value f is around =
+    same_three tbs algorithm value (tbs_of f.tbs) f.algorithm (Primitive 0x03 (f.unused ∷ f.signature)) (sym is ∙ around)
 
 same_contents : (value : DerElement) (a b : List ℕ) → value ≡ Primitive 0x03 a → value ≡ Primitive 0x03 b → a ≡ b
 same_contents value a b p q = cc
@@ -65,5 +68,6 @@ pub no_bits : (value : DerElement) (contents : List ℕ) (unused : ℕ) (payload
 no_bits value contents unused payload empty p q = omega (arith, empty, ap length (same_contents value contents (unused ∷ payload) p q))
 
 -- what is known of an element is known of its fields
-pub known_fits : (element : DerElement) (f : CertificateElements) → element ≡ certificate_of f → ∥ Fits IsCertificate element ∥₁ → ∥ Fits AreCertificateFields f ∥₁
+pub known_fits : (element : DerElement) (f : CertificateElements) → element ≡ certificate_of f → ∥ Fits IsCertificate element ∥₁
+    → ∥ Fits AreCertificateFields f ∥₁
 known_fits element f is known = ∥∥₁_elim known (λ a b. squash₁ a b) (λ fit. merely (fit.0, by_certificate element f fit.0 is fit.1))

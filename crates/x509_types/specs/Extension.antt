@@ -8,8 +8,7 @@ use Rattle.asn1_types.specs.Values.{identifier_contents}
 use Rattle.asn1_types.specs.Elements.{object_identifier}
 use Rattle.asn1_types.specs.declared.oid.ObjectIdentifier.{ObjectIdentifier}
 use Rattle.der_core.specs.Default.{default_false}
-use Rattle.x509_types.specs.ExtensionKind.{extension_kind_number, named_kind}
-use Rattle.x509_types.specs.ExtensionView.{kind_of_view, value_octets, IsValueIn, IsValueOf}
+use Rattle.x509_types.specs.ExtensionView.{named_kind, extension_kind_number, kind_of_view, value_octets, IsValueIn, IsValueOf}
 use Rattle.x509_types.specs.ExtensionFields.{IsExtensionOf}
 use Rattle.x509_types.specs.declared.extension.Extension.{Extension}
 use Rattle.x509_types.specs.declared.extension.view.ExtensionView.{ExtensionView}

@@ -1,5 +1,8 @@
--- The values of extensions, wrapped in an OCTET STRING (RFC 5280 4.1, 4.2.1).
-use Rattle.std.specs.Prelude.{◌≡◌, ⊤, ℕ, List, [], ◌∷◌}
+-- The kinds of extensions, by OID, and their values, wrapped in an OCTET STRING (RFC 5280 4.1,
+-- 4.2.1).
+use Rattle.std.specs.Prelude.{◌≡◌, ⊤, ℕ, List, [], ◌∷◌, if◌then◌else◌, bytes_eq}
+use Rattle.asn1_types.specs.declared.oids.TheConstants.{CE_SUBJECT_KEY_IDENTIFIER, CE_KEY_USAGE, CE_SUBJECT_ALT_NAME, CE_ISSUER_ALT_NAME}
+use Rattle.asn1_types.specs.declared.oids.TheConstants.{CE_BASIC_CONSTRAINTS, CE_AUTHORITY_KEY_IDENTIFIER, CE_EXT_KEY_USAGE}
 use Rattle.der_core.specs.Each.{Prints}
 use Rattle.der_core.specs.DerElement.{DerElement}
 use Rattle.der_core.specs.Elements.{octet_string}
@@ -9,16 +12,36 @@ use Rattle.extension_types.specs.KeyUsage.{key_usage}
 use Rattle.extension_types.specs.BasicConstraints.{basic_constraints, IsBasicConstraints}
 use Rattle.extension_types.specs.AuthorityKeyIdentifier.{authority_key_identifier}
 use Rattle.extension_types.specs.ExtendedKeyUsage.{extended_key_usage}
-use Rattle.extension_types.specs.declared.key_usage.KeyUsage.{KeyUsage}
-use Rattle.extension_types.specs.declared.authority_key_identifier.AuthorityKeyIdentifier.{AuthorityKeyIdentifier}
-use Rattle.extension_types.specs.declared.extended_key_usage.ExtendedKeyUsage.{ExtendedKeyUsage}
 use Rattle.name_types.specs.GeneralName.{general_names, AreGeneralNames}
 use Rattle.name_types.specs.declared.general_name.RawGeneralName.{RawGeneralName}
-use Rattle.x509_types.specs.ExtensionKind.{extension_kind_number}
-use Rattle.x509_types.specs.declared.extension.kind.ExtensionKind.{ExtensionKind}
-use Rattle.x509_types.specs.declared.extension.kind.ExtensionKind.TheVariants as kinds
+use Rattle.x509_types.specs.declared.extension.view.ExtensionKind.{ExtensionKind}
+use Rattle.x509_types.specs.declared.extension.view.ExtensionKind.TheVariants as kinds
 use Rattle.x509_types.specs.declared.extension.view.ExtensionView.{ExtensionView}
 use Rattle.x509_types.specs.declared.extension.view.ExtensionView.TheVariants as views
+
+-- the kind that an OID identifies, by its contents octets (RFC 5280 4.2.1.1 to 4.2.1.3, 4.2.1.6,
+-- 4.2.1.7, 4.2.1.9, 4.2.1.12)
+abbrev pub named_kind : List ℕ → ExtensionKind
+named_kind oid =
+    if bytes_eq oid CE_SUBJECT_KEY_IDENTIFIER.now then kinds.SubjectKeyIdentifier
+    else (if bytes_eq oid CE_KEY_USAGE.now then kinds.KeyUsage
+    else (if bytes_eq oid CE_SUBJECT_ALT_NAME.now then kinds.SubjectAltName
+    else (if bytes_eq oid CE_ISSUER_ALT_NAME.now then kinds.IssuerAltName
+    else (if bytes_eq oid CE_BASIC_CONSTRAINTS.now then kinds.BasicConstraints
+    else (if bytes_eq oid CE_AUTHORITY_KEY_IDENTIFIER.now then kinds.AuthorityKeyIdentifier
+    else (if bytes_eq oid CE_EXT_KEY_USAGE.now then kinds.ExtendedKeyUsage
+    else kinds.Other))))))
+
+-- a number for each kind
+abbrev pub extension_kind_number : ExtensionKind → ℕ
+extension_kind_number kinds.SubjectKeyIdentifier = 0
+extension_kind_number kinds.KeyUsage = 1
+extension_kind_number kinds.SubjectAltName = 2
+extension_kind_number kinds.IssuerAltName = 3
+extension_kind_number kinds.BasicConstraints = 4
+extension_kind_number kinds.AuthorityKeyIdentifier = 5
+extension_kind_number kinds.ExtendedKeyUsage = 6
+extension_kind_number kinds.Other = 7
 
 -- the kind of a value
 abbrev pub kind_of_view : ExtensionView → ExtensionKind

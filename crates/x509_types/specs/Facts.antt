@@ -1,6 +1,5 @@
 -- Lemmas that facts of values rest on. Nothing in this folder needs reading: no public clause cites
 -- it.
-pub mod ExtensionKinds
 pub mod ExtensionViews
 pub mod Extensions
 pub mod DeterminedExtensions

@@ -2,7 +2,6 @@
 -- `CertificateView`, `Extension`, `Attribute`.
 -- Rules, which the promises rest on: `ExtensionFields`, `LentTbs`, `FirstExtension`.
 -- Inside, which no public contract cites: `TbsParts`, `FoundExtensions`, `Facts`.
-pub mod ExtensionKind
 pub mod ExtensionView
 pub mod ExtensionFields
 pub mod Extension

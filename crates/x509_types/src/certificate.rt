@@ -9,6 +9,7 @@
 
 ghost use Rattle.std.specs.Prelude.{◌≡◌, ◌↔◌, IsTrue};
 
+pub(crate) mod first_fields;
 mod parts;
 pub(crate) mod tbs_certificate;
 mod tbs_fields;

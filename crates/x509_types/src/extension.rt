@@ -5,20 +5,17 @@ ghost use Rattle.der_core.specs.declared.error.DerError.TheVariants as errors;
 ghost use Rattle.asn1_types.specs.Values.{identifier_contents};
 ghost use Rattle.asn1_types.specs.KnownIdentifiers.{is_known};
 ghost use Rattle.asn1_types.specs.declared.oids.TheConstants.{CE_SUBJECT_KEY_IDENTIFIER, CE_KEY_USAGE, CE_SUBJECT_ALT_NAME, CE_ISSUER_ALT_NAME, CE_BASIC_CONSTRAINTS, CE_AUTHORITY_KEY_IDENTIFIER, CE_EXT_KEY_USAGE};
-ghost use Rattle.x509_types.specs.ExtensionKind.{named_kind};
-ghost use Rattle.x509_types.specs.ExtensionView.{IsOfKind};
+ghost use Rattle.x509_types.specs.ExtensionView.{named_kind, IsOfKind};
 ghost use Rattle.x509_types.specs.Facts.ExtensionViews.{IsOfKind-prop};
 
-mod fields;
+pub(crate) mod fields;
 pub(crate) mod first;
-pub(crate) mod kind;
 pub(crate) mod parts;
 pub(crate) mod purposes;
 pub(crate) mod view;
 
 use crate::extension::fields::{ExtensionFields, kind_at};
-use crate::extension::kind::ExtensionKind;
-use crate::extension::view::ExtensionView;
+use crate::extension::view::{ExtensionKind, ExtensionView};
 use asn1_types::ObjectIdentifier;
 use asn1_types::oids::{
     CE_AUTHORITY_KEY_IDENTIFIER, CE_BASIC_CONSTRAINTS, CE_EXT_KEY_USAGE, CE_ISSUER_ALT_NAME,

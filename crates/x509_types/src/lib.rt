@@ -13,12 +13,13 @@ pub use attribute::kind::AttributeKind;
 pub use attribute::values::AttributeValues;
 pub use attribute::{Attribute, AttributeList};
 pub use certificate::Certificate;
+pub use certificate::first_fields::issuer_and_serial_at;
 pub use certificate::tbs_certificate::TbsCertificate;
 pub use certificate::validity::Validity;
 pub use certificate::version::Version;
 pub use certificate::view::CertView;
-pub use extension::kind::ExtensionKind;
-pub use extension::view::ExtensionView;
+pub use extension::fields::ExtensionFields;
+pub use extension::view::{ExtensionKind, ExtensionView};
 pub use extension::{Extension, Extensions};
 pub use extension_types::{
     AuthorityKeyIdentifier, BasicConstraints, ExtendedKeyUsage, KeyUsage, OidList,

@@ -5,7 +5,6 @@ ghost use Rattle.std.specs.Prelude.{◌≡◌, ◌↔◌, List, IsTrue, IfSome, 
 ghost use Rattle.cms_types.specs.SignedView.{data_elements};
 ghost use Rattle.cms_types.specs.SignerView.{signer_elements_at};
 ghost use Rattle.der_core.specs.DerElement.{DerElement};
-ghost use Rattle.der_core.specs.Encoding.{encoding};
 ghost use Rattle.der_core.specs.Lent.{at_option};
 ghost use Rattle.der_core.specs.Optional.{members_of};
 ghost use Rattle.x509_types.specs.CertificateElements.{CertificateElements, certificate_of};
@@ -25,12 +24,8 @@ use crate::bag::certificates::{certificate_bag, issuer_walk_of};
 use crate::bag::issuer_walk::IssuerWalk;
 use crate::bag::wanted::Wanted;
 use cms_types::{SignedView, SignerView};
-use der_core::tag::{INTEGER, SEQUENCE};
-use der_core::{Elem, Kids, is_same, leaf_at};
-use x509_types::CertView;
-
-/// The explicit tag of the version of a certificate.
-const VERSION: u8 = 0xA0;
+use der_core::{Elem, Kids, is_same};
+use x509_types::{CertView, issuer_and_serial_at};
 
 /// The signer's certificate, and whether a certificate of its issuer walk has an extended key
 /// usage.
@@ -168,32 +163,15 @@ fn named_at<'a>(member: Elem<'a>, issuer: &[u8], serial_number: &[u8]) -> Option
     Some(certificate)
 }
 
-/// Whether a member could be a certificate with this issuer and serial number. One whose fields
-/// aren't found is read by the caller.
+/// Whether a member could be a certificate with this issuer and serial number.
 fn may_be_named(member: Elem<'_>, issuer: &[u8], serial_number: &[u8]) -> bool
     ensures { (c : CertificateElements) → member.entry.is.0 ≡ certificate_of c
         → IsNamedBy issuer.now serial_number.now c → IsTrue result }
 {
-    match issuer_and_serial_in(member) {
+    match issuer_and_serial_at(member) {
         Some((name, number)) => is_same(name, issuer) && is_same(number, serial_number),
-        None => true,
+        None => false,
     }
-}
-
-/// The octets of the issuer, and the contents octets of the serial number, in an element that may
-/// be a certificate (RFC 5280 4.1).
-fn issuer_and_serial_in<'a>(member: Elem<'a>) -> Option<(&'a [u8], &'a [u8])>
-    ensures { (c : CertificateElements) → member.entry.is.0 ≡ certificate_of c
-        → IfSome result
-        (λ named. (named.0.now ≡ encoding c.tbs.issuer) × (named.1.now ≡ c.tbs.serial_number)) }
-{
-    let mut fields = Kids::of(member, SEQUENCE)?;
-    let mut kids = Kids::of(fields.next()?, SEQUENCE)?;
-    let _version = kids.next_explicit(VERSION)?;
-    let serial_number = leaf_at(kids.next()?, INTEGER)?;
-    let _algorithm = kids.next()?;
-    let issuer = kids.next()?;
-    Some((issuer.whole, serial_number))
 }
 
 /// The first wanted certificate of a bag, and whether some certificate of the issuer walk has an

@@ -5,6 +5,7 @@ use Rattle.der_core.specs.DerElement.{DerElement}
 use Rattle.der_core.specs.Encoding.{IsWellFormed}
 use Rattle.cms_types.specs.Levels.{OfOption}
 
-pub options_formed : {X : Type 0} (written : X → DerElement) → ((value : X) → IsWellFormed (written value)) → (a : Option X) → OfOption IsWellFormed (option_map written a)
+pub options_formed : {X : Type 0} (written : X → DerElement) → ((value : X) → IsWellFormed (written value)) → (a : Option X)
+    → OfOption IsWellFormed (option_map written a)
 options_formed written formed None = tt
 options_formed written formed (Some x) = formed x

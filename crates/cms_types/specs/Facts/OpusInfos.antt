@@ -29,14 +29,19 @@ fields_once n m i j e =
 
 infos_once : (a b : SpcSpOpusInfo) → opus_info a ≡ opus_info b → a ≡ b
 infos_once a b e =
-    let parts = fields_once (option_map spc_string a.program_name) (option_map spc_string b.program_name) (option_map spc_link a.more_info) (option_map spc_link b.more_info) e in
-    let program_name : a.program_name ≡ b.program_name = options_once spc_string (λ x y e. spc_strings.once (spc_string x) x y refl e) a.program_name b.program_name parts.0 in
+    let parts = fields_once (option_map spc_string a.program_name) (option_map spc_string b.program_name) (option_map spc_link a.more_info)
+    (option_map spc_link b.more_info) e in
+    let program_name : a.program_name ≡ b.program_name =
+    options_once spc_string (λ x y e. spc_strings.once (spc_string x) x y refl e) a.program_name b.program_name parts.0 in
     let more_info : a.more_info ≡ b.more_info = options_once spc_link (λ x y e. spc_links.once (spc_link x) x y refl e) a.more_info b.more_info parts.1 in
     λ i. record { program_name = program_name i; more_info = more_info i }
 
-fields_formed : (name : Option SpcString) (link : Option SpcLink) → AreWellFormed (row (optional_explicit 0xA0 (option_map spc_string name) ++ optional_explicit 0xA1 (option_map spc_link link)))
+fields_formed : (name : Option SpcString) (link : Option SpcLink)
+    → AreWellFormed (row (optional_explicit 0xA0 (option_map spc_string name) ++ optional_explicit 0xA1 (option_map spc_link link)))
 fields_formed name link =
-    explicit_formed 0xA0 (option_map spc_string name) (optional_explicit 0xA1 (option_map spc_link link)) (omega arith, omega arith, omega arith) refl (option_formed spc_string spc_strings.formed name) (last_formed 0xA1 (option_map spc_link link) (omega arith, omega arith, omega arith) refl (option_formed spc_link spc_links.formed link))
+    explicit_formed 0xA0 (option_map spc_string name) (optional_explicit 0xA1 (option_map spc_link link))
+    (omega arith, omega arith, omega arith) refl (option_formed spc_string spc_strings.formed name)
+    (last_formed 0xA1 (option_map spc_link link) (omega arith, omega arith, omega arith) refl (option_formed spc_link spc_links.formed link))
 
 pub opus_infos : IsGrammar (λ element info. element ≡ opus_info info) opus_info (λ info. [])
 opus_infos = printed opus_info infos_once (λ info. ((omega arith, omega arith, omega arith), refl, fields_formed info.program_name info.more_info))

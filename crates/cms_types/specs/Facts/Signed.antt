@@ -34,7 +34,8 @@ test_prop t = hlevel props
 lists_once : (element : DerElement) (a b : List Attribute) → ∥ AreAttributes element a ∥₁ → ∥ AreAttributes element b ∥₁ → a ≡ b
 lists_once element a b p q =
     let same = pointwise_same equal equal_same a b in
-    same.0 (∥∥₁_elim p (test_prop (pointwise equal a b)) (λ x. ∥∥₁_elim q (test_prop (pointwise equal a b)) (λ y. same.1 (attribute_lists.once element a b x y))))
+    same.0 (∥∥₁_elim p (test_prop (pointwise equal a b))
+    (λ x. ∥∥₁_elim q (test_prop (pointwise equal a b)) (λ y. same.1 (attribute_lists.once element a b x y))))
 
 abbrev signed_with : (element : KeptElement) (list : List Attribute) → ∥ AreAttributes element.element list ∥₁ → SignedAttributes
 signed_with element list are = record { element = element; list = list; are = are }
@@ -48,7 +49,8 @@ same_signed a b element list =
 
 signed_once : (a b : SignedAttributes) → signed_attributes a ≡ signed_attributes b → a ≡ b
 signed_once a b e =
-    same_signed a b (same_kept a.element b.element e) (lists_once b.element.element a.list b.list (subst (λ (t : DerElement). ∥ AreAttributes t a.list ∥₁) e a.are) b.are)
+    same_signed a b (same_kept a.element b.element e)
+    (lists_once b.element.element a.list b.list (subst (λ (t : DerElement). ∥ AreAttributes t a.list ∥₁) e a.are) b.are)
 
 pub all_signed_attributes : IsGrammar (λ element value. element ≡ signed_attributes value) signed_attributes (λ value. [])
 all_signed_attributes = printed signed_attributes signed_once (λ value. value.element.der.formed)

@@ -36,7 +36,11 @@ list_tags tag written None = tt
 list_tags tag written (Some a) = refl
 
 pub determined_value : (d : SignedData) → IsDeterminedData (signed_data_elements d)
-determined_value d = record { certificates = list_tags 0xA0 certificate_choice d.certificates; crls = list_tags 0xA1 element_of_kept d.crls; signers_infos = refl }
+determined_value d = record {
+  certificates = list_tags 0xA0 certificate_choice d.certificates;
+  crls = list_tags 0xA1 element_of_kept d.crls;
+  signers_infos = refl;
+}
 
 same_algorithms : (a b : List AlgorithmIdentifier) → list_element 0x31 algorithm_identifier a ≡ list_element 0x31 algorithm_identifier b → a ≡ b
 same_algorithms a b e = list_once 0x31 algorithm_identifier (λ x y e. algorithms.once (algorithm_identifier x) x y refl e) a b e
@@ -56,7 +60,8 @@ data_once a b same =
     let version = versions_once a.version b.version (ap (λ (f : SignedDataElements). f.version) same) in
     let digest_algorithms = same_algorithms a.digest_algorithms b.digest_algorithms (ap (λ (f : SignedDataElements). f.digest_algorithms) same) in
     let info = content_infos.once (content_info a.content_info) a.content_info b.content_info refl (ap (λ (f : SignedDataElements). f.content_info) same) in
-    let certificates = options_once (list_element 0xA0 certificate_choice) same_certificates a.certificates b.certificates (ap (λ (f : SignedDataElements). f.certificates) same) in
+    let certificates = options_once (list_element 0xA0 certificate_choice) same_certificates a.certificates b.certificates
+    (ap (λ (f : SignedDataElements). f.certificates) same) in
     let crls = options_once (list_element 0xA1 element_of_kept) same_crls a.crls b.crls (ap (λ (f : SignedDataElements). f.crls) same) in
     let signers_infos = same_signers a.signers_infos b.signers_infos (ap (λ (f : SignedDataElements). f.signers_infos) same) in
     λ i. record {
@@ -97,4 +102,8 @@ pkcs7_once a b e =
     ap (λ (d : SignedData). record { signed_data = d }) (datas_once a.signed_data b.signed_data inside)
 
 pub pkcs7s : IsGrammar (λ element p. element ≡ pkcs7 p) pkcs7 (λ p. [])
-pkcs7s = printed pkcs7 pkcs7_once (λ p. ((omega arith, omega arith, omega arith), refl, (((omega arith, omega arith, omega arith), refl), (((omega arith, omega arith, omega arith), refl, (datas_formed p.signed_data, tt)), tt))))
+pkcs7s = printed pkcs7 pkcs7_once (λ p. (
+  (omega arith, omega arith, omega arith),
+  refl,
+  (((omega arith, omega arith, omega arith), refl), (((omega arith, omega arith, omega arith), refl, (datas_formed p.signed_data, tt)), tt)),
+))

@@ -27,7 +27,8 @@ tagged_field tag (Some x) tagged = tagged
 pub options_split : (tag : ℕ) (a b : Option DerElement) (xs ys : List DerElement) → OfOption (λ e. tag_of e ≡ tag) a → OfOption (λ e. tag_of e ≡ tag) b
     → (a ≡ None → BeginsOtherwise tag xs) → (b ≡ None → BeginsOtherwise tag ys) → option_to_list a ++ xs ≡ option_to_list b ++ ys → (a ≡ b) × (xs ≡ ys)
 options_split tag a b xs ys p q f g e =
-    let parts = split tag (option_to_list a) (option_to_list b) xs ys (tagged_field tag a p) (tagged_field tag b q) (λ none. f (none_of a none)) (λ none. g (none_of b none)) e in
+    let parts = split tag (option_to_list a) (option_to_list b) xs ys (tagged_field tag a p) (tagged_field tag b q) (λ none. f (none_of a none))
+    (λ none. g (none_of b none)) e in
     (kept_once a b parts.0, parts.1)
 
 -- ---- signers
@@ -45,7 +46,10 @@ pub algorithm_tag : (x : DerElement) → Fits IsAlgorithm x → tag_of x ≢ 0xA
 algorithm_tag x fit = λ e. let here : tag_of x ≡ 0x30 = ap tag_of fit.1 in omega (arith, e, here)
 
 pub determined_fields : (f : SignerElements) → AreSignerFields f → IsDetermined f
-determined_fields f fields = record { signed_attrs = signed_tagged f.signed_attrs fields.signed_attrs; signature_algorithm = algorithm_tag f.signature_algorithm fields.signature_algorithm }
+determined_fields f fields = record {
+  signed_attrs = signed_tagged f.signed_attrs fields.signed_attrs;
+  signature_algorithm = algorithm_tag f.signature_algorithm fields.signature_algorithm;
+}
 
 abbrev pub signer_tail : SignerElements → List DerElement
 signer_tail f = f.signature_algorithm ∷ f.signature ∷ option_to_list f.unsigned_attrs
@@ -61,7 +65,8 @@ same_signer f g fixed fixed' e =
     let sid : f.sid ≡ g.sid = cc in
     let digest_algorithm : f.digest_algorithm ≡ g.digest_algorithm = cc in
     let others : option_to_list f.signed_attrs ++ signer_tail f ≡ option_to_list g.signed_attrs ++ signer_tail g = cc in
-    let parts = options_split 0xA0 f.signed_attrs g.signed_attrs (signer_tail f) (signer_tail g) fixed.signed_attrs fixed'.signed_attrs (λ none. fixed.signature_algorithm) (λ none. fixed'.signature_algorithm) others in
+    let parts = options_split 0xA0 f.signed_attrs g.signed_attrs (signer_tail f) (signer_tail g) fixed.signed_attrs fixed'.signed_attrs
+    (λ none. fixed.signature_algorithm) (λ none. fixed'.signature_algorithm) others in
     let tails : signer_tail f ≡ signer_tail g = parts.1 in
     let signature_algorithm : f.signature_algorithm ≡ g.signature_algorithm = cc in
     let signature : f.signature ≡ g.signature = cc in
@@ -77,7 +82,8 @@ same_signer f g fixed fixed' e =
       unsigned_attrs = unsigned_attrs i;
     }
 
-option_formed : (a : Option DerElement) (rest : List DerElement) → OfOption IsWellFormed a → AreWellFormed (row rest) → AreWellFormed (row (option_to_list a ++ rest))
+option_formed : (a : Option DerElement) (rest : List DerElement) → OfOption IsWellFormed a → AreWellFormed (row rest)
+    → AreWellFormed (row (option_to_list a ++ rest))
 option_formed None rest inside formed = formed
 option_formed (Some x) rest inside formed = (inside, formed)
 
@@ -97,8 +103,11 @@ pub record IsFormedSigner (f : SignerElements) : Type 0 where
 
 pub signer_formed : (f : SignerElements) → IsFormedSigner f → IsWellFormed (signer_of f)
 signer_formed f formed =
-    let tail : AreWellFormed (row (signer_tail f)) = (formed.signature_algorithm, (formed.signature, last_formed f.unsigned_attrs formed.unsigned_attrs)) in
-    ((omega arith, omega arith, omega arith), refl, (formed.version, (formed.sid, (formed.digest_algorithm, option_formed f.signed_attrs (signer_tail f) formed.signed_attrs tail))))
+    let tail : AreWellFormed (row (signer_tail f)) = (formed.signature_algorithm, (formed.signature, last_formed f.unsigned_attrs formed.unsigned_attrs)) in (
+      (omega arith, omega arith, omega arith),
+      refl,
+      (formed.version, (formed.sid, (formed.digest_algorithm, option_formed f.signed_attrs (signer_tail f) formed.signed_attrs tail))),
+    )
 
 -- ---- signed data
 
@@ -125,7 +134,8 @@ abbrev pub data_kids : SignedDataElements → List DerElement
 data_kids f = f.version ∷ f.digest_algorithms ∷ f.content_info ∷ (option_to_list f.certificates ++ data_tail f)
 
 -- what follows the certificates has another tag
-pub no_certificates : (crls : Option DerElement) (signers : DerElement) → OfOption (λ e. tag_of e ≡ 0xA1) crls → tag_of signers ≡ 0x31 → BeginsOtherwise 0xA0 (option_to_list crls ++ signers ∷ [])
+pub no_certificates : (crls : Option DerElement) (signers : DerElement) → OfOption (λ e. tag_of e ≡ 0xA1) crls → tag_of signers ≡ 0x31
+    → BeginsOtherwise 0xA0 (option_to_list crls ++ signers ∷ [])
 no_certificates None signers tagged last = λ e. omega (arith, e, last)
 no_certificates (Some x) signers tagged last = λ e. omega (arith, e, tagged)
 
@@ -141,7 +151,8 @@ same_data f g fixed fixed' e =
     let content_info : f.content_info ≡ g.content_info = cc in
     let others : option_to_list f.certificates ++ data_tail f ≡ option_to_list g.certificates ++ data_tail g = cc in
     let certificates = options_split 0xA0 f.certificates g.certificates (data_tail f) (data_tail g) fixed.certificates fixed'.certificates
-    (λ none. no_certificates f.crls f.signers_infos fixed.crls fixed.signers_infos) (λ none. no_certificates g.crls g.signers_infos fixed'.crls fixed'.signers_infos) others in
+    (λ none. no_certificates f.crls f.signers_infos fixed.crls fixed.signers_infos)
+    (λ none. no_certificates g.crls g.signers_infos fixed'.crls fixed'.signers_infos) others in
     let crls = options_split 0xA1 f.crls g.crls (f.signers_infos ∷ []) (g.signers_infos ∷ []) fixed.crls fixed'.crls
     (λ none. no_crls f.signers_infos fixed.signers_infos) (λ none. no_crls g.signers_infos fixed'.signers_infos) certificates.1 in
     let tails : f.signers_infos ∷ [] ≡ g.signers_infos ∷ [] = crls.1 in
@@ -166,5 +177,8 @@ pub record IsFormedData (f : SignedDataElements) : Type 0 where
 
 pub data_formed : (f : SignedDataElements) → IsFormedData f → IsWellFormed (signed_data_of f)
 data_formed f formed =
-    let tail : AreWellFormed (row (data_tail f)) = option_formed f.crls (f.signers_infos ∷ []) formed.crls (formed.signers_infos, tt) in
-    ((omega arith, omega arith, omega arith), refl, (formed.version, (formed.digest_algorithms, (formed.content_info, option_formed f.certificates (data_tail f) formed.certificates tail))))
+    let tail : AreWellFormed (row (data_tail f)) = option_formed f.crls (f.signers_infos ∷ []) formed.crls (formed.signers_infos, tt) in (
+      (omega arith, omega arith, omega arith),
+      refl,
+      (formed.version, (formed.digest_algorithms, (formed.content_info, option_formed f.certificates (data_tail f) formed.certificates tail))),
+    )

@@ -21,7 +21,8 @@ issuers_once a b e =
     λ i. record { issuer = issuer i; serial_number = serial_number i }
 
 pub issuers_and_serials : IsGrammar (λ element value. element ≡ issuer_and_serial_number value) issuer_and_serial_number (λ value. [])
-issuers_and_serials = printed issuer_and_serial_number issuers_once (λ value. ((omega arith, omega arith, omega arith), refl, (names.formed value.issuer, (integers.formed value.serial_number, tt))))
+issuers_and_serials = printed issuer_and_serial_number issuers_once
+    (λ value. ((omega arith, omega arith, omega arith), refl, (names.formed value.issuer, (integers.formed value.serial_number, tt))))
 
 signers_once : (a b : SignerIdentifier) → signer_identifier a ≡ signer_identifier b → a ≡ b
 signers_once (named.IssuerAndSerialNumber x) (named.IssuerAndSerialNumber y) e = ap named.IssuerAndSerialNumber (issuers_once x y e)

@@ -51,11 +51,15 @@ pub signer_once : (a b : SignerInfo) → signer_elements a ≡ signer_elements b
 signer_once a b same =
     let version = versions_once a.version b.version (ap (λ (f : SignerElements). f.version) same) in
     let sid = signer_identifiers.once (signer_identifier a.sid) a.sid b.sid refl (ap (λ (f : SignerElements). f.sid) same) in
-    let digest_algorithm = algorithms.once (algorithm_identifier a.digest_algorithm) a.digest_algorithm b.digest_algorithm refl (ap (λ (f : SignerElements). f.digest_algorithm) same) in
-    let signed_attrs = options_once signed_attributes (λ x y e. all_signed_attributes.once (signed_attributes x) x y refl e) a.signed_attrs b.signed_attrs (ap (λ (f : SignerElements). f.signed_attrs) same) in
-    let signature_algorithm = algorithms.once (algorithm_identifier a.signature_algorithm) a.signature_algorithm b.signature_algorithm refl (ap (λ (f : SignerElements). f.signature_algorithm) same) in
+    let digest_algorithm = algorithms.once (algorithm_identifier a.digest_algorithm) a.digest_algorithm b.digest_algorithm refl
+    (ap (λ (f : SignerElements). f.digest_algorithm) same) in
+    let signed_attrs = options_once signed_attributes (λ x y e. all_signed_attributes.once (signed_attributes x) x y refl e) a.signed_attrs b.signed_attrs
+    (ap (λ (f : SignerElements). f.signed_attrs) same) in
+    let signature_algorithm = algorithms.once (algorithm_identifier a.signature_algorithm) a.signature_algorithm b.signature_algorithm refl
+    (ap (λ (f : SignerElements). f.signature_algorithm) same) in
     let signature = octet_strings.once (octet_string a.signature) a.signature b.signature refl (ap (λ (f : SignerElements). f.signature) same) in
-    let unsigned_attrs = options_once (list_element 0xA1 unsigned_attribute) same_unsigned a.unsigned_attrs b.unsigned_attrs (ap (λ (f : SignerElements). f.unsigned_attrs) same) in
+    let unsigned_attrs =
+    options_once (list_element 0xA1 unsigned_attribute) same_unsigned a.unsigned_attrs b.unsigned_attrs (ap (λ (f : SignerElements). f.unsigned_attrs) same) in
     λ i. record {
       version = version i;
       sid = sid i;

@@ -106,7 +106,8 @@ attributes_once (attributes.Raw x) (attributes.MsCounterSign y) e =
 
 unsigned_formed : (oid : List ℕ) (values : List KeptElement) → IsWellFormed (attribute_of oid (elements_of_kept values))
 unsigned_formed oid values =
-    let inside : IsWellFormed (set (elements_of_kept values)) = ((omega arith, omega arith, omega arith), refl, each_formed element_of_kept (λ k. k.der.formed) values) in
+    let inside : IsWellFormed (set (elements_of_kept values)) =
+    ((omega arith, omega arith, omega arith), refl, each_formed element_of_kept (λ k. k.der.formed) values) in
     ((omega arith, omega arith, omega arith), refl, (((omega arith, omega arith, omega arith), refl), (inside, tt)))
 
 attribute_formed : (a : UnsignedAttribute) → IsWellFormed (unsigned_attribute a)

@@ -25,12 +25,14 @@ pub no_issuer : (serial : Option (List ℕ)) → BeginsOtherwise 0xA1 (optional_
 no_issuer None = tt
 no_issuer (Some content) = λ e. omega (arith, e)
 
-pub no_key : (issuer : Option DerElement) (serial : Option (List ℕ)) → HasIssuerTag issuer → BeginsOtherwise 0x80 (option_to_list issuer ++ optional_leaf 0x82 serial)
+pub no_key : (issuer : Option DerElement) (serial : Option (List ℕ)) → HasIssuerTag issuer
+    → BeginsOtherwise 0x80 (option_to_list issuer ++ optional_leaf 0x82 serial)
 no_key None None tagged = tt
 no_key None (Some content) tagged = λ e. omega (arith, e)
 no_key (Some issuer) serial tagged = λ e. omega (arith, e, tagged)
 
-abbrev authority_with : (key : Option (List ℕ)) (issuer : Option KeptElement) (serial : Option (List ℕ)) → HasIssuerTag (kept_option issuer) → AuthorityKeyIdentifier
+abbrev authority_with : (key : Option (List ℕ)) (issuer : Option KeptElement) (serial : Option (List ℕ)) → HasIssuerTag (kept_option issuer)
+    → AuthorityKeyIdentifier
 authority_with key issuer serial tagged = record { key_identifier = key; issuer = issuer; serial_number = serial; tagged = tagged }
 
 pub same_authority : (a b : AuthorityKeyIdentifier) → a.key_identifier ≡ b.key_identifier → a.issuer ≡ b.issuer → a.serial_number ≡ b.serial_number → a ≡ b
@@ -47,17 +49,25 @@ authorities_once a b e =
     let s = optional_leaf 0x82 a.serial_number in
     let t = optional_leaf 0x82 b.serial_number in
     let kids = same_fields (optional_leaf 0x80 a.key_identifier ++ (i ++ s)) (optional_leaf 0x80 b.key_identifier ++ (j ++ t)) e in
-    let keys = leaf_split 0x80 a.key_identifier b.key_identifier (i ++ s) (j ++ t) (λ none. no_key (kept_option a.issuer) a.serial_number a.tagged) (λ none. no_key (kept_option b.issuer) b.serial_number b.tagged) kids in
-    let issuers = split 0xA1 i j s t (issuer_field (kept_option a.issuer) a.tagged) (issuer_field (kept_option b.issuer) b.tagged) (λ none. no_issuer a.serial_number) (λ none. no_issuer b.serial_number) keys.1 in
+    let keys = leaf_split 0x80 a.key_identifier b.key_identifier (i ++ s) (j ++ t) (λ none. no_key (kept_option a.issuer) a.serial_number a.tagged)
+    (λ none. no_key (kept_option b.issuer) b.serial_number b.tagged) kids in
+    let issuers = split 0xA1 i j s t (issuer_field (kept_option a.issuer) a.tagged) (issuer_field (kept_option b.issuer) b.tagged)
+    (λ none. no_issuer a.serial_number) (λ none. no_issuer b.serial_number) keys.1 in
     same_authority a b keys.0 (kept_option_once a.issuer b.issuer issuers.0) (leaf_once 0x82 a.serial_number b.serial_number issuers.1)
 
 serial_formed : (serial : Option (List ℕ)) → AreWellFormed (row (optional_leaf 0x82 serial))
 serial_formed None = tt
 serial_formed (Some content) = (((omega arith, omega arith, omega arith), refl), tt)
 
-issuer_formed : (issuer : Option KeptElement) (serial : Option (List ℕ)) → AreWellFormed (row (option_to_list (kept_option issuer) ++ optional_leaf 0x82 serial))
+issuer_formed : (issuer : Option KeptElement) (serial : Option (List ℕ))
+    → AreWellFormed (row (option_to_list (kept_option issuer) ++ optional_leaf 0x82 serial))
 issuer_formed None serial = serial_formed serial
 issuer_formed (Some issuer) serial = (issuer.der.formed, serial_formed serial)
 
 pub authority_key_identifiers : IsGrammar (λ element a. element ≡ authority_key_identifier a) authority_key_identifier (λ a. [])
-authority_key_identifiers = printed authority_key_identifier authorities_once (λ a. ((omega arith, omega arith, omega arith), refl, leaf_formed 0x80 a.key_identifier (option_to_list (kept_option a.issuer) ++ optional_leaf 0x82 a.serial_number) (omega arith, omega arith, omega arith) refl (issuer_formed a.issuer a.serial_number)))
+authority_key_identifiers = printed authority_key_identifier authorities_once (λ a. (
+  (omega arith, omega arith, omega arith),
+  refl,
+  leaf_formed 0x80 a.key_identifier (option_to_list (kept_option a.issuer) ++ optional_leaf 0x82 a.serial_number) (omega arith, omega arith, omega arith) refl
+      (issuer_formed a.issuer a.serial_number),
+))

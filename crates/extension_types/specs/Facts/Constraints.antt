@@ -95,8 +95,10 @@ same_constraints a b ca pathlen =
 constraints_once : (element : DerElement) (a b : BasicConstraints) → IsBasicConstraints element a → IsBasicConstraints element b → a ≡ b
 constraints_once element a b p q =
     let kids = same_fields (p.flag ++ optional_integer a.pathlen) (q.flag ++ optional_integer b.pathlen) (sym p.is ∙ q.is) in
-    let parts = split 0x01 p.flag q.flag (optional_integer a.pathlen) (optional_integer b.pathlen) (optional_field p.flag a.ca p.flagged) (optional_field q.flag b.ca q.flagged) (λ e. no_flag a.pathlen) (λ e. no_flag b.pathlen) kids in
-    same_constraints a b (optional_once q.flag a.ca b.ca (subst (λ (f : List DerElement). IsOptionalBoolean f a.ca) parts.0 p.flagged) q.flagged) (lengths_once a.pathlen b.pathlen parts.1)
+    let parts = split 0x01 p.flag q.flag (optional_integer a.pathlen) (optional_integer b.pathlen) (optional_field p.flag a.ca p.flagged)
+    (optional_field q.flag b.ca q.flagged) (λ e. no_flag a.pathlen) (λ e. no_flag b.pathlen) kids in
+    same_constraints a b (optional_once q.flag a.ca b.ca (subst (λ (f : List DerElement). IsOptionalBoolean f a.ca) parts.0 p.flagged) q.flagged)
+    (lengths_once a.pathlen b.pathlen parts.1)
 
 pub formed_of : (ca : Option Bool) (pathlen : Option ℕ) → IsWellFormed (sequence (optional_boolean ca ++ optional_integer pathlen))
 formed_of None None = ((omega arith, omega arith, omega arith), refl, tt)
@@ -114,7 +116,8 @@ all_basic_constraints = record {
 
 -- constraints with one element are the same
 pub constraints_printed : (a b : BasicConstraints) → basic_constraints a ≡ basic_constraints b → a ≡ b
-constraints_printed a b e = constraints_once (basic_constraints b) a b (record { flag = optional_boolean a.ca; flagged = optional_is a.ca; is = sym e }) (all_basic_constraints.spelled b tt)
+constraints_printed a b e = constraints_once (basic_constraints b) a b (record { flag = optional_boolean a.ca; flagged = optional_is a.ca; is = sym e })
+    (all_basic_constraints.spelled b tt)
 
 -- ---- basic constraints are short
 
@@ -155,7 +158,8 @@ true_or_not_der kid b is =
     ]
 
 -- a flag in an octet is FALSE only for 00
-octet_spelled : (element : DerElement) (octet : ℕ) (b : BasicConstraints) (c : Bool) → b.ca ≡ Some c → c ≡ not (octet == 0) → octet ≢ 0xFF → element ≡ sequence (Primitive 0x01 (octet ∷ []) ∷ optional_integer b.pathlen)
+octet_spelled : (element : DerElement) (octet : ℕ) (b : BasicConstraints) (c : Bool) → b.ca ≡ Some c → c ≡ not (octet == 0) → octet ≢ 0xFF
+    → element ≡ sequence (Primitive 0x01 (octet ∷ []) ∷ optional_integer b.pathlen)
     → (element ≡ basic_constraints b) ⊎ HasOtherTrue element b
 octet_spelled element zero b c given flagged other is =
     inl (is ∙ ap (λ (flag : Option Bool). sequence (optional_boolean flag ++ optional_integer b.pathlen)) (ap Some (sym flagged) ∙ sym given))
@@ -168,7 +172,8 @@ octet_spelled element (suc n) b c given flagged other is =
       is = is;
     })
 
-flag_spelled : (element : DerElement) (b : BasicConstraints) (ca : Option Bool) (flag : List DerElement) → b.ca ≡ ca → element ≡ sequence (flag ++ optional_integer b.pathlen) → IsOptionalBoolean flag ca
+flag_spelled : (element : DerElement) (b : BasicConstraints) (ca : Option Bool) (flag : List DerElement) → b.ca ≡ ca
+    → element ≡ sequence (flag ++ optional_integer b.pathlen) → IsOptionalBoolean flag ca
     → (element ≡ basic_constraints b) ⊎ HasOtherTrue element b
 flag_spelled element b None flag given is flagged =
     inl (is ∙ ap (λ (f : List DerElement). sequence (f ++ optional_integer b.pathlen)) (flagged ∙ ap optional_boolean (sym given)))
@@ -177,9 +182,11 @@ flag_spelled element b (Some c) flag given is (kid, one, flagged) =
     elim (true_or_not_der kid c flagged) [
       | inl (same, set) ↦ inl (are ∙ ap (λ (k : DerElement). sequence (k ∷ optional_integer b.pathlen)) (same ∙ ap boolean (sym set))
           ∙ ap (λ (f : Option Bool). sequence (optional_boolean f ++ optional_integer b.pathlen)) (sym given))
-      | inr other ↦ octet_spelled element flagged.0 b c given flagged.2 other (are ∙ ap (λ (k : DerElement). sequence (k ∷ optional_integer b.pathlen)) flagged.1)
+      | inr other ↦
+          octet_spelled element flagged.0 b c given flagged.2 other (are ∙ ap (λ (k : DerElement). sequence (k ∷ optional_integer b.pathlen)) flagged.1)
     ]
 
 -- constraints are encoded as they are written, or by another TRUE
-pub constraints_spelled : (element : DerElement) (b : BasicConstraints) → IsBasicConstraints element b → (element ≡ basic_constraints b) ⊎ HasOtherTrue element b
+pub constraints_spelled : (element : DerElement) (b : BasicConstraints) → IsBasicConstraints element b
+    → (element ≡ basic_constraints b) ⊎ HasOtherTrue element b
 constraints_spelled element b is = flag_spelled element b b.ca is.flag refl is.is is.flagged

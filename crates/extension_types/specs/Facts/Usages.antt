@@ -21,4 +21,5 @@ extended_once : (a b : ExtendedKeyUsage) → extended_key_usage a ≡ extended_k
 extended_once a b e = ap (λ (x : List ObjectIdentifier). record { purposes = x }) (list_once 0x30 object_identifier same_identifier a.purposes b.purposes e)
 
 pub extended_key_usages : IsGrammar (λ element usage. element ≡ extended_key_usage usage) extended_key_usage (λ usage. [])
-extended_key_usages = printed extended_key_usage extended_once (λ usage. ((omega arith, omega arith, omega arith), refl, each_formed object_identifier identifiers.formed usage.purposes))
+extended_key_usages = printed extended_key_usage extended_once
+    (λ usage. ((omega arith, omega arith, omega arith), refl, each_formed object_identifier identifiers.formed usage.purposes))

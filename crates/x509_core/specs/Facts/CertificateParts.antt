@@ -24,8 +24,10 @@ same_payload m n a b e = cc
 -- one element has one list of fields
 pub parts_once : (f g : CertificateElements) → certificate_of f ≡ certificate_of g → f ≡ g
 parts_once f g e =
-    let same = same_three (tbs_of f.tbs) f.algorithm (Primitive 0x03 (f.unused ∷ f.signature)) (tbs_of g.tbs) g.algorithm (Primitive 0x03 (g.unused ∷ g.signature)) e in
-    same_parts f g (same_elements f.tbs g.tbs same.0) same.1 (same_unused f.unused g.unused f.signature g.signature same.2) (same_payload f.unused g.unused f.signature g.signature same.2)
+    let same =
+    same_three (tbs_of f.tbs) f.algorithm (Primitive 0x03 (f.unused ∷ f.signature)) (tbs_of g.tbs) g.algorithm (Primitive 0x03 (g.unused ∷ g.signature)) e in
+    same_parts f g (same_elements f.tbs g.tbs same.0) same.1 (same_unused f.unused g.unused f.signature g.signature same.2)
+    (same_payload f.unused g.unused f.signature g.signature same.2)
 
 abbrev pub coded_elements : Coded CertificateElements
 coded_elements = record { code = λ f. stored (certificate_of f); inj = λ a b e. parts_once a b (stored_inj (certificate_of a) (certificate_of b) e) }
@@ -35,9 +37,13 @@ pub spelled_by : (f : CertificateElements) (c : Certificate) → AreCertificateF
 spelled_by f c are = record { elements = f; is = refl; spelled = are }
 
 abbrev pub coded_certificate : Coded Certificate
-coded_certificate = record { code = λ c. octets_code.code (certificate_octets c); inj = λ a b e. certificates_by_octets a b (octets_code.inj (certificate_octets a) (certificate_octets b) e) }
+coded_certificate = record {
+  code = λ c. octets_code.code (certificate_octets c);
+  inj = λ a b e. certificates_by_octets a b (octets_code.inj (certificate_octets a) (certificate_octets b) e);
+}
 
 -- fields are those of one certificate
 pub value_once : (f : CertificateElements) (a b : Certificate) → ∥ AreCertificateFields f a ∥₁ → ∥ AreCertificateFields f b ∥₁ → a ≡ b
 value_once f a b p q =
-    ∥∥₁_elim p (Coded-set coded_certificate a b) (λ x. ∥∥₁_elim q (Coded-set coded_certificate a b) (λ y. certificates.once (certificate_of f) a b (spelled_by f a x) (spelled_by f b y)))
+    ∥∥₁_elim p (Coded-set coded_certificate a b)
+    (λ x. ∥∥₁_elim q (Coded-set coded_certificate a b) (λ y. certificates.once (certificate_of f) a b (spelled_by f a x) (spelled_by f b y)))

@@ -18,11 +18,14 @@ use Rattle.x509_core.specs.Link.{HasKey}
 same_some : (a b : List ℕ) → ◌≡◌ {A = Option (List ℕ)} (Some a) (Some b) → a ≡ b
 same_some a b e = cc
 
-rsa_bits : (f : CertificateElements) (info : SubjectPublicKeyInfo) (key : RsaPublicKey) (octets : List ℕ) → HasKey f info → info.subject_public_key ≡ keys.Rsa key → key_octets_of f ≡ Some octets → octets ≡ encoding (rsa_public_key key)
+rsa_bits : (f : CertificateElements) (info : SubjectPublicKeyInfo) (key : RsaPublicKey) (octets : List ℕ) → HasKey f info
+    → info.subject_public_key ≡ keys.Rsa key → key_octets_of f ≡ Some octets → octets ≡ encoding (rsa_public_key key)
 rsa_bits f info key octets has rsa lent =
-    same_some octets (encoding (rsa_public_key key)) (sym lent ∙ ap (λ (e : DerElement). bits_of (kid 1 e)) has ∙ ap (λ (k : SubjectKey). bits_of (Some (subject_public_key k))) rsa)
+    same_some octets (encoding (rsa_public_key key)) (sym lent ∙ ap (λ (e : DerElement). bits_of (kid 1 e)) has
+    ∙ ap (λ (k : SubjectKey). bits_of (Some (subject_public_key k))) rsa)
 
-pub lent_key : (f : CertificateElements) (info : SubjectPublicKeyInfo) (octets : List ℕ) → HasKey f info → AreDer (inner_key info.subject_public_key) → key_octets_of f ≡ Some octets
+pub lent_key : (f : CertificateElements) (info : SubjectPublicKeyInfo) (octets : List ℕ) → HasKey f info → AreDer (inner_key info.subject_public_key)
+    → key_octets_of f ≡ Some octets
     → (key : RsaPublicKey) → info.subject_public_key ≡ keys.Rsa key → IsPkcs1Of (keys.Rsa key) octets
 lent_key f info octets has inner lent = λ key rsa.
     let in_bounds : AreDer (inner_key (keys.Rsa key)) = subst (λ (k : SubjectKey). AreDer (inner_key k)) rsa inner in

@@ -32,7 +32,8 @@ abbrev no_element : List DerElement
 no_element = []
 
 -- SET OF (X.690 8.12)
-sets : {X : Type 0} (spells : DerElement → X → Type 0) (written : X → DerElement) (inner : X → List DerElement) → IsGrammar spells written inner → IsGrammar (IsListOf 0x31 spells) (list_element 0x31 written) (flat_map inner)
+sets : {X : Type 0} (spells : DerElement → X → Type 0) (written : X → DerElement) (inner : X → List DerElement) → IsGrammar spells written inner
+    → IsGrammar (IsListOf 0x31 spells) (list_element 0x31 written) (flat_map inner)
 sets spells written inner grammar = lists 0x31 spells written inner (omega arith, omega arith, omega arith) refl grammar
 
 abbrev kept_element : KeptElement → DerElement
@@ -55,7 +56,8 @@ kept_sets = sets (Prints kept_element) kept_element (λ k. no_element) kept_elem
 
 -- ---- values of one kind
 
-pub values_once : (element : DerElement) (a b : AttributeValues) → kind_of_values a ≡ kind_of_values b → AreAttributeValues element a → AreAttributeValues element b → a ≡ b
+pub values_once : (element : DerElement) (a b : AttributeValues) → kind_of_values a ≡ kind_of_values b → AreAttributeValues element a
+    → AreAttributeValues element b → a ≡ b
 values_once element (values.ContentType x) (values.ContentType y) kind p q = ap values.ContentType (type_sets.once element x y p q)
 values_once element (values.MessageDigest x) (values.MessageDigest y) kind p q = ap values.MessageDigest (digest_sets.once element x y p q)
 values_once element (values.Extensions x) (values.Extensions y) kind p q = ap values.Extensions (request_sets.once element x y p q)
@@ -85,7 +87,8 @@ values_formed (values.Raw x) = kept_sets.formed x
 same_digest : (a b : List ℕ) → octet_string a ≡ octet_string b → a ≡ b
 same_digest a b e = cc
 
-pub values_determined : (a b : AttributeValues) → kind_of_values a ≡ kind_of_values b → asked_kinds a ≡ asked_kinds b → attribute_values a ≡ attribute_values b → a ≡ b
+pub values_determined : (a b : AttributeValues) → kind_of_values a ≡ kind_of_values b → asked_kinds a ≡ asked_kinds b
+    → attribute_values a ≡ attribute_values b → a ≡ b
 values_determined (values.ContentType x) (values.ContentType y) kind asked e = ap values.ContentType (list_once 0x31 object_identifier same_identifier x y e)
 values_determined (values.MessageDigest x) (values.MessageDigest y) kind asked e = ap values.MessageDigest (list_once 0x31 octet_string same_digest x y e)
 values_determined (values.Extensions x) (values.Extensions y) kind asked e = ap values.Extensions (requests_determined x y asked e)
@@ -108,6 +111,7 @@ pub values_by_octets : (a b : AttributeValues) → values_octets a ≡ values_oc
 values_by_octets a b e =
     let numbers : attribute_number (kind_of_values a) ≡ attribute_number (kind_of_values b) = cc in
     let others : asked_kinds a ++ encoding (attribute_values a) ≡ asked_kinds b ++ encoding (attribute_values b) = cc in
-    let parts = split_before 0x31 (omega arith) (asked_kinds a) (asked_kinds b) (encoding (attribute_values a)) (encoding (attribute_values b)) (begins a).0 (begins b).0 (begins a).1 (begins b).1 (small_asked a) (small_asked b) others in
+    let parts = split_before 0x31 (omega arith) (asked_kinds a) (asked_kinds b) (encoding (attribute_values a)) (encoding (attribute_values b)) (begins a).0
+    (begins b).0 (begins a).1 (begins b).1 (small_asked a) (small_asked b) others in
     values_determined a b (attribute_kinds_by_number (kind_of_values a) (kind_of_values b) numbers) parts.0
     (formed_encoding_once (attribute_values a) (attribute_values b) (values_formed a) (values_formed b) parts.1)

@@ -27,7 +27,8 @@ same_attribute a b ty value =
     let with_value : (h : kind_of_values b.value ≡ named_attribute (identifier_contents a.ty)) → a ≡ attribute_with a.ty b.value h =
     subst (λ (v : AttributeValues). (h : kind_of_values v ≡ named_attribute (identifier_contents a.ty)) → a ≡ attribute_with a.ty v h) value
     (λ h. ap (attribute_with a.ty a.value) (same_attribute_kinds (kind_of_values a.value) (named_attribute (identifier_contents a.ty)) a.fits h)) in
-    subst (λ (i : ObjectIdentifier). (h : kind_of_values b.value ≡ named_attribute (identifier_contents i)) → a ≡ attribute_with i b.value h) ty with_value b.fits
+    subst (λ (i : ObjectIdentifier). (h : kind_of_values b.value ≡ named_attribute (identifier_contents i)) → a ≡ attribute_with i b.value h)
+    ty with_value b.fits
 
 -- attributes with one OID have values of one kind
 pub same_kind : (a b : Attribute) → a.ty ≡ b.ty → kind_of_values a.value ≡ kind_of_values b.value
@@ -41,7 +42,8 @@ attributes_once : (element : DerElement) (a b : Attribute) → IsAttribute eleme
 attributes_once element a b p q =
     let same = same_two (object_identifier a.ty) p.values (object_identifier b.ty) q.values (sym p.is ∙ q.is) in
     let ty = same_identifier a.ty b.ty same.0 in
-    same_attribute a b ty (values_once q.values a.value b.value (same_kind a b ty) (subst (λ (v : DerElement). AreAttributeValues v a.value) same.1 p.spelled) q.spelled)
+    same_attribute a b ty
+    (values_once q.values a.value b.value (same_kind a b ty) (subst (λ (v : DerElement). AreAttributeValues v a.value) same.1 p.spelled) q.spelled)
 
 pub attributes_determined : (a b : Attribute) → asked_kinds a.value ≡ asked_kinds b.value → attribute a ≡ attribute b → a ≡ b
 attributes_determined a b asked e =
@@ -66,5 +68,6 @@ attribute_lists = lists 0xA0 IsAttribute attribute (λ (a : Attribute). inner_va
 
 pub attributes_by_octets : (a b : Attribute) → attribute_octets a ≡ attribute_octets b → a ≡ b
 attributes_by_octets a b e =
-    let parts = split_before 0x30 (omega arith) (asked_kinds a.value) (asked_kinds b.value) (encoding (attribute a)) (encoding (attribute b)) _ _ refl refl (small_asked a.value) (small_asked b.value) e in
+    let parts = split_before 0x30 (omega arith) (asked_kinds a.value) (asked_kinds b.value) (encoding (attribute a)) (encoding (attribute b)) _ _ refl refl
+    (small_asked a.value) (small_asked b.value) e in
     attributes_determined a b parts.0 (formed_encoding_once (attribute a) (attribute b) (attributes_formed a) (attributes_formed b) parts.1)

@@ -28,7 +28,8 @@ same_algorithm a b e = algorithms.once (algorithm_identifier a) a b refl e
 same_bits : (a b : BitString) → bit_string a ≡ bit_string b → a ≡ b
 same_bits a b e = bit_strings.once (bit_string a) a b refl e
 
-pub same_certificate : (a b : Certificate) → a.tbs_certificate ≡ b.tbs_certificate → a.signature_algorithm ≡ b.signature_algorithm → a.signature_value ≡ b.signature_value → a ≡ b
+pub same_certificate : (a b : Certificate) → a.tbs_certificate ≡ b.tbs_certificate → a.signature_algorithm ≡ b.signature_algorithm
+    → a.signature_value ≡ b.signature_value → a ≡ b
 same_certificate a b tbs algorithm value i = record { tbs_certificate = tbs i; signature_algorithm = algorithm i; signature_value = value i }
 
 -- sequences of three are the same only if all elements are
@@ -76,7 +77,8 @@ certificates_spelled c der =
       spelled = record { tbs = tbs.spelled; algorithm = refl; signature = refl };
     }
 
-certificates_determined : (a b : Certificate) → value_kinds a.tbs_certificate.extensions ≡ value_kinds b.tbs_certificate.extensions → certificate a ≡ certificate b → a ≡ b
+certificates_determined : (a b : Certificate) → value_kinds a.tbs_certificate.extensions ≡ value_kinds b.tbs_certificate.extensions
+    → certificate a ≡ certificate b → a ≡ b
 certificates_determined a b kinds e =
     let same = same_three (tbs_certificate a.tbs_certificate)
     (algorithm_identifier a.signature_algorithm) (bit_string a.signature_value)

@@ -8,14 +8,11 @@ use Rattle.der_core.specs.Encoding.{encoding}
 use Rattle.der_core.specs.Each.{list_element}
 use Rattle.der_core.specs.Facts.Equality.{same_tests}
 use Rattle.der_core.specs.Facts.Grammars.{same_fields}
-use Rattle.x509_types.specs.ExtensionKind.{extension_kind_number}
-use Rattle.x509_types.specs.ExtensionView.{kind_of_view}
+use Rattle.x509_types.specs.ExtensionView.{extension_kind_number, kind_of_view}
 use Rattle.x509_types.specs.Extension.{extension, value_kinds}
-use Rattle.x509_types.specs.Facts.ExtensionKinds.{kinds_by_number}
+use Rattle.x509_types.specs.Facts.ExtensionViews.{kinds_by_number, small_kind}
 use Rattle.x509_types.specs.Facts.Extensions.{extensions_determined}
 use Rattle.x509_types.specs.declared.extension.Extension.{Extension}
-use Rattle.x509_types.specs.declared.extension.kind.ExtensionKind.{ExtensionKind}
-use Rattle.x509_types.specs.declared.extension.kind.ExtensionKind.TheVariants as kinds
 
 -- ---- extensions by their kinds and elements
 
@@ -31,9 +28,11 @@ lists_determined (x ∷ a) (y ∷ b) k e =
     let kinds : map number_of a ≡ map number_of b = cc in
     let first : extension x ≡ extension y = cc in
     let others : map extension a ≡ map extension b = cc in
-    ap (λ v. v ∷ a) (extensions_determined x y (kinds_by_number (kind_of_view x.extn_value) (kind_of_view y.extn_value) kind) first) ∙ ap (λ vs. y ∷ vs) (lists_determined a b kinds others)
+    ap (λ v. v ∷ a) (extensions_determined x y (kinds_by_number (kind_of_view x.extn_value) (kind_of_view y.extn_value) kind) first)
+    ∙ ap (λ vs. y ∷ vs) (lists_determined a b kinds others)
 
-pub options_determined : (a b : Option (List Extension)) → value_kinds a ≡ value_kinds b → option_map (list_element 0x30 extension) a ≡ option_map (list_element 0x30 extension) b → a ≡ b
+pub options_determined : (a b : Option (List Extension)) → value_kinds a ≡ value_kinds b
+    → option_map (list_element 0x30 extension) a ≡ option_map (list_element 0x30 extension) b → a ≡ b
 options_determined None None k e = refl
 options_determined None (Some y) k e = absurd cc
 options_determined (Some x) None k e = absurd cc
@@ -47,16 +46,6 @@ abbrev pub AreSmall : List ℕ → Type 0
 AreSmall [] = ⊤
 AreSmall (k ∷ ks) = (k < 48) × AreSmall ks
 
-small_kind : (kind : ExtensionKind) → extension_kind_number kind < 48
-small_kind kinds.SubjectKeyIdentifier = omega arith
-small_kind kinds.KeyUsage = omega arith
-small_kind kinds.SubjectAltName = omega arith
-small_kind kinds.IssuerAltName = omega arith
-small_kind kinds.BasicConstraints = omega arith
-small_kind kinds.AuthorityKeyIdentifier = omega arith
-small_kind kinds.ExtendedKeyUsage = omega arith
-small_kind kinds.Other = omega arith
-
 pub small_list : (es : List Extension) → AreSmall (map number_of es)
 small_list [] = tt
 small_list (e ∷ es) = (small_kind (kind_of_view e.extn_value), small_list es)
@@ -65,7 +54,8 @@ small_kinds : (es : Option (List Extension)) → AreSmall (value_kinds es)
 small_kinds None = tt
 small_kinds (Some es) = small_list es
 
-pub split_before : (tag : ℕ) → 47 < tag → (ks ls x y r s : List ℕ) → x ≡ tag ∷ r → y ≡ tag ∷ s → AreSmall ks → AreSmall ls → ks ++ x ≡ ls ++ y → (ks ≡ ls) × (x ≡ y)
+pub split_before : (tag : ℕ) → 47 < tag → (ks ls x y r s : List ℕ) → x ≡ tag ∷ r → y ≡ tag ∷ s → AreSmall ks → AreSmall ls → ks ++ x ≡ ls ++ y
+    → (ks ≡ ls) × (x ≡ y)
 split_before tag high [] [] x y r s p q f g e = (refl, e)
 split_before tag high [] (l ∷ ls) x y r s p q f g e = let first : tag ≡ l = cc in absurd (omega (arith, first, g.0, high))
 split_before tag high (k ∷ ks) [] x y r s p q f g e = let first : k ≡ tag = cc in absurd (omega (arith, first, f.0, high))
@@ -75,7 +65,8 @@ split_before tag high (k ∷ ks) (l ∷ ls) x y r s p q f g e =
     let parts = split_before tag high ks ls x y r s p q f.1 g.1 others in
     (ap (λ n. n ∷ ks) first ∙ ap (λ ns. l ∷ ns) parts.0, parts.1)
 
-pub kinds_and_octets : (x y : Option (List Extension)) (ks ls : DerElements) → value_kinds x ++ encoding (Constructed 0x30 ks) ≡ value_kinds y ++ encoding (Constructed 0x30 ls)
+pub kinds_and_octets : (x y : Option (List Extension)) (ks ls : DerElements)
+    → value_kinds x ++ encoding (Constructed 0x30 ks) ≡ value_kinds y ++ encoding (Constructed 0x30 ls)
     → (value_kinds x ≡ value_kinds y) × (encoding (Constructed 0x30 ks) ≡ encoding (Constructed 0x30 ls))
 kinds_and_octets x y ks ls e = split_before 0x30 (omega arith) (value_kinds x) (value_kinds y) _ _ _ _ refl refl (small_kinds x) (small_kinds y) e
 

@@ -13,7 +13,8 @@ abbrev pub kinds_of : List (List Extension) → List ℕ
 kinds_of requests = flat_map (λ (request : List Extension). value_kinds (Some request)) requests
 
 -- if the same is written for two lists of extensions, they have equally many kinds
-pub split_kinds : (x y : List Extension) (r s : List ℕ) → map extension x ≡ map extension y → map number_of x ++ r ≡ map number_of y ++ s → (map number_of x ≡ map number_of y) × (r ≡ s)
+pub split_kinds : (x y : List Extension) (r s : List ℕ) → map extension x ≡ map extension y → map number_of x ++ r ≡ map number_of y ++ s
+    → (map number_of x ≡ map number_of y) × (r ≡ s)
 split_kinds [] [] r s w e = (refl, e)
 split_kinds [] (b ∷ y) r s w e = absurd cc
 split_kinds (a ∷ x) [] r s w e = absurd cc

@@ -15,19 +15,18 @@ use Rattle.asn1_types.specs.Facts.Elements.{identifiers, same_identifier}
 use Rattle.asn1_types.specs.declared.oid.ObjectIdentifier.{ObjectIdentifier}
 use Rattle.der_core.specs.Default.{default_false}
 use Rattle.x509_types.specs.ExtensionFields.{IsExtensionOf}
-use Rattle.x509_types.specs.ExtensionKind.{extension_kind_number, named_kind}
-use Rattle.x509_types.specs.ExtensionView.{kind_of_view, value_octets, inner_value, IsOfKind, IsValueIn}
+use Rattle.x509_types.specs.ExtensionView.{named_kind, extension_kind_number, kind_of_view, value_octets, inner_value, IsOfKind, IsValueIn}
 use Rattle.x509_types.specs.Extension.{extension, extension_octets, IsExtension}
 use Rattle.der_core.specs.Facts.Grammars.{same_fields}
 use Rattle.der_core.specs.Facts.Fields.{split}
 use Rattle.extension_types.specs.Facts.Constraints.{default_is, default_field, default_once}
-use Rattle.x509_types.specs.Facts.ExtensionKinds.{kinds_by_number}
-use Rattle.x509_types.specs.Facts.ExtensionViews.{IsOfKind-prop, values_once, values_by_octets, values_bounded, values_written}
+use Rattle.x509_types.specs.Facts.ExtensionViews.{kinds_by_number, IsOfKind-prop, values_once, values_by_octets, values_bounded, values_written}
 use Rattle.x509_types.specs.declared.extension.Extension.{Extension}
 use Rattle.x509_types.specs.declared.extension.view.ExtensionView.{ExtensionView}
 
 -- the fields of an element are unique
-pub fields_once : (element oid oid' : DerElement) (b c : Bool) (v w : List ℕ) → IsExtensionOf element oid b v → IsExtensionOf element oid' c w → (oid ≡ oid') × (b ≡ c) × (v ≡ w)
+pub fields_once : (element oid oid' : DerElement) (b c : Bool) (v w : List ℕ) → IsExtensionOf element oid b v → IsExtensionOf element oid' c w
+    → (oid ≡ oid') × (b ≡ c) × (v ≡ w)
 fields_once element oid oid' b c v w p q =
     let kids : oid ∷ (p.flag ++ Primitive 0x04 v ∷ []) ≡ oid' ∷ (q.flag ++ Primitive 0x04 w ∷ []) =
     same_fields (oid ∷ (p.flag ++ Primitive 0x04 v ∷ [])) (oid' ∷ (q.flag ++ Primitive 0x04 w ∷ [])) (sym p.is ∙ q.is) in
@@ -50,7 +49,8 @@ same_extension a b id critical view =
     subst (λ (v : ExtensionView). (h : IsOfKind (named_kind (identifier_contents a.extn_id)) v) → a ≡ extension_of a.extn_id b.critical v h) view
     (λ h. ap (λ (c : Bool). extension_of a.extn_id c a.extn_value a.agrees) critical
     ∙ ap (extension_of a.extn_id b.critical a.extn_value) (IsOfKind-prop (named_kind (identifier_contents a.extn_id)) a.extn_value a.agrees h)) in
-    subst (λ (i : ObjectIdentifier). (h : IsOfKind (named_kind (identifier_contents i)) b.extn_value) → a ≡ extension_of i b.critical b.extn_value h) id with_view b.agrees
+    subst (λ (i : ObjectIdentifier). (h : IsOfKind (named_kind (identifier_contents i)) b.extn_value) → a ≡ extension_of i b.critical b.extn_value h)
+    id with_view b.agrees
 
 extensions_once : (element : DerElement) (a b : Extension) → IsExtension element a → IsExtension element b → a ≡ b
 extensions_once element a b p q =
@@ -69,8 +69,10 @@ written_fields e = record { flag = default_false e.critical; flagged = default_i
 -- extensions with one element and values of one kind are the same
 pub extensions_determined : (a b : Extension) → kind_of_view a.extn_value ≡ kind_of_view b.extn_value → extension a ≡ extension b → a ≡ b
 extensions_determined a b kind e =
-    let fields = fields_once (extension b) (object_identifier a.extn_id) (object_identifier b.extn_id) a.critical b.critical (value_octets a.extn_value) (value_octets b.extn_value)
-    (subst (λ (x : DerElement). IsExtensionOf x (object_identifier a.extn_id) a.critical (value_octets a.extn_value)) e (written_fields a)) (written_fields b) in
+    let fields = fields_once (extension b) (object_identifier a.extn_id) (object_identifier b.extn_id) a.critical b.critical (value_octets a.extn_value)
+    (value_octets b.extn_value)
+    (subst (λ (x : DerElement). IsExtensionOf x (object_identifier a.extn_id) a.critical (value_octets a.extn_value)) e (written_fields a))
+    (written_fields b) in
     same_extension a b (same_identifier a.extn_id b.extn_id fields.0) fields.1 (values_by_octets a.extn_value b.extn_value kind fields.2)
 
 flag_formed : (critical : Bool) (octets : List ℕ) → AreWellFormed (row (default_false critical ++ Primitive 0x04 octets ∷ []))

@@ -22,7 +22,8 @@ use Rattle.x509_types.specs.ExtensionView.{inner_value}
 use Rattle.x509_types.specs.Extension.{extension, value_kinds, IsExtension}
 use Rattle.der_core.specs.Optional.{SpellsOption, inner_option}
 use Rattle.x509_types.specs.TbsElements.{TbsElements}
-use Rattle.x509_types.specs.TbsCertificate.{IsVersion, IsExtensions, extensions, inner_extensions, AreTbsFields, IsTbsCertificate, tbs_elements, tbs_certificate, tbs_octets, inner_tbs}
+use Rattle.x509_types.specs.TbsCertificate.{IsVersion, IsExtensions, extensions, inner_extensions, AreTbsFields}
+use Rattle.x509_types.specs.TbsCertificate.{IsTbsCertificate, tbs_elements, tbs_certificate, tbs_octets, inner_tbs}
 use Rattle.x509_types.specs.Facts.Extensions.{all_extensions}
 use Rattle.x509_types.specs.Facts.DeterminedExtensions.{options_determined, kinds_and_octets}
 use Rattle.der_core.specs.Facts.Optional.{option_once, option_bounded, option_spelled, options_once, option_formed}
@@ -76,7 +77,8 @@ fields_once f a b p q =
       issuer = names.once f.issuer a.issuer b.issuer p.issuer q.issuer;
       validity = validities.once f.validity a.validity b.validity p.validity q.validity;
       subject = names.once f.subject a.subject b.subject p.subject q.subject;
-      key = public_key_infos.once f.subject_public_key_info a.subject_public_key_info b.subject_public_key_info p.subject_public_key_info q.subject_public_key_info;
+      key = public_key_infos.once f.subject_public_key_info a.subject_public_key_info b.subject_public_key_info p.subject_public_key_info
+          q.subject_public_key_info;
       issuer_unique_id = sym p.issuer_unique_id ∙ q.issuer_unique_id;
       subject_unique_id = sym p.subject_unique_id ∙ q.subject_unique_id;
       extensions = option_once IsExtensions extension_lists.once f.extensions a.extensions b.extensions p.extensions q.extensions;

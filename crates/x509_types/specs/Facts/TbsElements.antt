@@ -16,7 +16,8 @@ no_subject None = tt
 no_subject (Some kid) = λ e. omega (arith, e)
 
 -- what follows the issuer's unique identifier isn't that
-pub no_issuer : (subject : Option (List ℕ)) (extensions : Option DerElement) → BeginsOtherwise 0x81 (optional_leaf 0x82 subject ++ optional_explicit 0xA3 extensions)
+pub no_issuer : (subject : Option (List ℕ)) (extensions : Option DerElement)
+    → BeginsOtherwise 0x81 (optional_leaf 0x82 subject ++ optional_explicit 0xA3 extensions)
 no_issuer None None = tt
 no_issuer None (Some kid) = λ e. omega (arith, e)
 no_issuer (Some content) extensions = λ e. omega (arith, e)

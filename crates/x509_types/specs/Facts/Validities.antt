@@ -25,4 +25,5 @@ validities_once a b e =
     same_times a.not_before b.not_before a.not_after b.not_after (times_once a.not_before b.not_before ends.0) (times_once a.not_after b.not_after ends.1)
 
 pub validities : IsGrammar (λ element value. element ≡ validity value) validity (λ value. [])
-validities = printed validity validities_once (λ value. ((omega arith, omega arith, omega arith), refl, (times_formed value.not_before, (times_formed value.not_after, tt))))
+validities = printed validity validities_once
+    (λ value. ((omega arith, omega arith, omega arith), refl, (times_formed value.not_before, (times_formed value.not_after, tt))))

@@ -9,6 +9,7 @@ ghost use Rattle.x509_types.specs.LentCertificate.{lent_elements};
 
 mod extensions;
 mod inner_fields;
+mod outer_fields;
 
 use crate::Time;
 use crate::certificate::parts::CertParts;

@@ -19,16 +19,16 @@ ghost use Rattle.asn1_types.specs.Elements.{object_identifier};
 ghost use Rattle.asn1_types.specs.Values.{identifier_contents};
 ghost use Rattle.asn1_types.specs.declared.oid.ObjectIdentifier.{ObjectIdentifier};
 ghost use Rattle.x509_types.specs.ExtensionFields.{IsExtensionOf};
-ghost use Rattle.x509_types.specs.ExtensionKind.{named_kind};
+ghost use Rattle.x509_types.specs.ExtensionView.{named_kind};
 
-use crate::extension::kind::ExtensionKind;
+use crate::extension::view::ExtensionKind;
 use asn1_types::ObjectIdentifier;
 use der_core::tag::{OBJECT_IDENTIFIER, OCTET_STRING, SEQUENCE};
 use der_core::{Elem, Kids, leaf_at};
 
 /// The fields of an Extension: its OID as any element, its flag, and the octets of its value.
 #[derive(Clone, Copy)]
-pub(crate) struct ExtensionFields<'a> {
+pub struct ExtensionFields<'a> {
     pub oid: Elem<'a>,
     pub critical: bool,
     pub value: &'a [u8],

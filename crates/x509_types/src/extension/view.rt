@@ -1,19 +1,82 @@
-//! The values of extensions.
+//! The values of extensions, and their kinds.
 
-ghost use Rattle.std.specs.Prelude.{◌≡◌, ◌↔◌, ℕ, false, IfOk, IsTrue, MatchOption, MatchResult};
+ghost use Rattle.std.specs.Prelude.{◌≡◌, ◌↔◌, false, bytes_eq, IfOk, IsTrue, MatchOption, MatchResult};
 ghost use Rattle.der_core.specs.Placed.{AreDer};
 ghost use Rattle.der_core.specs.Refusals.{RefusesShape, RefusesInner};
 ghost use Rattle.der_core.specs.Structure.{IsWithin};
 ghost use Rattle.der_core.specs.declared.error.DerError.TheVariants as errors;
 ghost use Rattle.name_types.specs.GeneralName.{AreGeneralNames};
-ghost use Rattle.x509_types.specs.ExtensionView.{kind_of_view, value_octets, inner_value, HoldsNoNames, IsValueOf};
+ghost use Rattle.x509_types.specs.ExtensionView.{named_kind, kind_of_view, value_octets, inner_value, HoldsNoNames, IsValueOf};
+ghost use Rattle.x509_types.specs.Facts.ExtensionViews.{TellsKind, RefusesKind};
 ghost use Rattle.x509_types.specs.declared.extension.view.ExtensionView.{ExtensionView};
 
-use crate::extension::kind::ExtensionKind;
-use der_core::{DerError, Octets, Structure, has_within, read_within, write_within};
+use asn1_types::oids::{
+    CE_AUTHORITY_KEY_IDENTIFIER, CE_BASIC_CONSTRAINTS, CE_EXT_KEY_USAGE, CE_ISSUER_ALT_NAME,
+    CE_KEY_USAGE, CE_SUBJECT_ALT_NAME, CE_SUBJECT_KEY_IDENTIFIER,
+};
+use der_core::{DerError, Octets, Structure, has_within, is_same, read_within, write_within};
 use extension_types::{AuthorityKeyIdentifier, BasicConstraints, ExtendedKeyUsage, KeyUsage};
 use name_types::RawGeneralNames;
 use std::alloc::{AllocError, Global};
+
+/// A kind of extensions.
+#[derive(Clone, Copy, Debug, PartialEq, Eq)]
+pub enum ExtensionKind {
+    /// Subject key identifier (RFC 5280 4.2.1.2).
+    SubjectKeyIdentifier,
+    /// Key usage: what the key may be used for, as bits (RFC 5280 4.2.1.3).
+    KeyUsage,
+    /// Alternative names of the subject (RFC 5280 4.2.1.6).
+    SubjectAltName,
+    /// Alternative names of the issuer (RFC 5280 4.2.1.7).
+    IssuerAltName,
+    /// Basic constraints: whether the subject is a CA (RFC 5280 4.2.1.9).
+    BasicConstraints,
+    /// Authority key identifier: the key that signed the certificate (RFC 5280 4.2.1.1).
+    AuthorityKeyIdentifier,
+    /// Extended key usage: what the key may be used for, as OIDs (RFC 5280 4.2.1.12).
+    ExtendedKeyUsage,
+    /// Any other kind.
+    Other,
+}
+
+impl ExtensionKind {
+    /// The kind that an OID, given as contents octets, identifies.
+    pub fn named(oid: &[u8]) -> ExtensionKind
+        ensures { result ≡ named_kind oid.now }
+    {
+        if is_named(oid, CE_SUBJECT_KEY_IDENTIFIER) {
+            return ExtensionKind::SubjectKeyIdentifier;
+        }
+        if is_named(oid, CE_KEY_USAGE) {
+            return ExtensionKind::KeyUsage;
+        }
+        if is_named(oid, CE_SUBJECT_ALT_NAME) {
+            return ExtensionKind::SubjectAltName;
+        }
+        if is_named(oid, CE_ISSUER_ALT_NAME) {
+            return ExtensionKind::IssuerAltName;
+        }
+        if is_named(oid, CE_BASIC_CONSTRAINTS) {
+            return ExtensionKind::BasicConstraints;
+        }
+        if is_named(oid, CE_AUTHORITY_KEY_IDENTIFIER) {
+            return ExtensionKind::AuthorityKeyIdentifier;
+        }
+        if is_named(oid, CE_EXT_KEY_USAGE) {
+            return ExtensionKind::ExtendedKeyUsage;
+        }
+        ExtensionKind::Other
+    }
+}
+
+/// Whether these are the contents octets of the known OID.
+#[inline(always)]
+fn is_named(oid: &[u8], known: &[u8]) -> bool
+    ensures { result ≡ bytes_eq oid.now known.now }
+{
+    is_same(oid, known)
+}
 
 /// The value of an extension, by the extension's OID (RFC 5280 4.2).
 #[derive(Debug, Drop)]
@@ -59,16 +122,7 @@ impl ExtensionView {
         ensures unfit { result ≡ false → (view : ExtensionView) → IsValueOf kind octets.now view
             → ⊥ }
     {
-        match kind {
-            ExtensionKind::SubjectKeyIdentifier => has_within::<Octets>(octets),
-            ExtensionKind::KeyUsage => has_within::<KeyUsage>(octets),
-            // Alternative names that don't parse are raw.
-            ExtensionKind::SubjectAltName | ExtensionKind::IssuerAltName => true,
-            ExtensionKind::BasicConstraints => has_within::<BasicConstraints>(octets),
-            ExtensionKind::AuthorityKeyIdentifier => has_within::<AuthorityKeyIdentifier>(octets),
-            ExtensionKind::ExtendedKeyUsage => has_within::<ExtendedKeyUsage>(octets),
-            ExtensionKind::Other => true,
-        }
+        fits_kind(kind, octets)
     }
 
     /// The value of the kind that the octets encode.
@@ -80,30 +134,7 @@ impl ExtensionView {
         ensures { MatchResult result (IsValueOf kind octets.now)
             (RefusesShape (IsValueOf kind octets.now)) }
     {
-        match kind {
-            ExtensionKind::SubjectKeyIdentifier => Ok(ExtensionView::SubjectKeyIdentifier(
-                read_within(alloc, octets)?,
-            )),
-            ExtensionKind::KeyUsage => Ok(ExtensionView::KeyUsage(read_within(alloc, octets)?)),
-            ExtensionKind::SubjectAltName => match read_names(alloc, octets)? {
-                Some(names) => Ok(ExtensionView::SubjectAltName(names)),
-                None => Ok(ExtensionView::Raw(Octets::from_slice(alloc, octets)?)),
-            },
-            ExtensionKind::IssuerAltName => match read_names(alloc, octets)? {
-                Some(names) => Ok(ExtensionView::IssuerAltName(names)),
-                None => Ok(ExtensionView::Raw(Octets::from_slice(alloc, octets)?)),
-            },
-            ExtensionKind::BasicConstraints => {
-                Ok(ExtensionView::BasicConstraints(read_within(alloc, octets)?))
-            }
-            ExtensionKind::AuthorityKeyIdentifier => Ok(ExtensionView::AuthorityKeyIdentifier(
-                read_within(alloc, octets)?,
-            )),
-            ExtensionKind::ExtendedKeyUsage => {
-                Ok(ExtensionView::ExtendedKeyUsage(read_within(alloc, octets)?))
-            }
-            ExtensionKind::Other => Ok(ExtensionView::Raw(Octets::from_slice(alloc, octets)?)),
-        }
+        read_kind(alloc, kind, octets)
     }
 
     /// The octets of the value.
@@ -151,6 +182,71 @@ impl ExtensionView {
             ExtensionView::Raw(octets) => ExtensionView::Raw(octets.try_clone(alloc)?),
         })
     }
+
+    /// Whether the values are the same.
+    fn has_same_value(&self, other: &ExtensionView) -> bool
+        ensures { IsTrue result ↔ (self.now ≡ other.now) }
+    {
+        match (self, other) {
+            (ExtensionView::SubjectKeyIdentifier(a), ExtensionView::SubjectKeyIdentifier(b)) => *a
+                == *b,
+            (ExtensionView::KeyUsage(a), ExtensionView::KeyUsage(b)) => *a == *b,
+            (ExtensionView::SubjectAltName(a), ExtensionView::SubjectAltName(b)) => *a == *b,
+            (ExtensionView::IssuerAltName(a), ExtensionView::IssuerAltName(b)) => *a == *b,
+            (ExtensionView::BasicConstraints(a), ExtensionView::BasicConstraints(b)) => *a == *b,
+            (ExtensionView::AuthorityKeyIdentifier(a), ExtensionView::AuthorityKeyIdentifier(b)) =>
+                *a == *b,
+            (ExtensionView::ExtendedKeyUsage(a), ExtensionView::ExtendedKeyUsage(b)) => *a == *b,
+            (ExtensionView::Raw(a), ExtensionView::Raw(b)) => *a == *b,
+            _ => false,
+        }
+    }
+}
+
+/// Whether the octets encode a value of the kind's own structure. Alternative names that don't
+/// parse are raw.
+fn fits_kind(kind: ExtensionKind, octets: &[u8]) -> bool
+    ensures { TellsKind kind octets.now result }
+{
+    match kind {
+        ExtensionKind::SubjectKeyIdentifier => has_within::<Octets>(octets),
+        ExtensionKind::KeyUsage => has_within::<KeyUsage>(octets),
+        ExtensionKind::SubjectAltName | ExtensionKind::IssuerAltName => true,
+        ExtensionKind::BasicConstraints => has_within::<BasicConstraints>(octets),
+        ExtensionKind::AuthorityKeyIdentifier => has_within::<AuthorityKeyIdentifier>(octets),
+        ExtensionKind::ExtendedKeyUsage => has_within::<ExtendedKeyUsage>(octets),
+        ExtensionKind::Other => true,
+    }
+}
+
+/// The value of the kind that the octets encode.
+fn read_kind(alloc: Global, kind: ExtensionKind, octets: &[u8]) -> Result<ExtensionView, DerError>
+    ensures { MatchResult result (IsValueOf kind octets.now) (RefusesKind kind octets.now) }
+{
+    match kind {
+        ExtensionKind::SubjectKeyIdentifier => Ok(ExtensionView::SubjectKeyIdentifier(read_within(
+            alloc, octets,
+        )?)),
+        ExtensionKind::KeyUsage => Ok(ExtensionView::KeyUsage(read_within(alloc, octets)?)),
+        ExtensionKind::SubjectAltName => match read_names(alloc, octets)? {
+            Some(names) => Ok(ExtensionView::SubjectAltName(names)),
+            None => Ok(ExtensionView::Raw(Octets::from_slice(alloc, octets)?)),
+        },
+        ExtensionKind::IssuerAltName => match read_names(alloc, octets)? {
+            Some(names) => Ok(ExtensionView::IssuerAltName(names)),
+            None => Ok(ExtensionView::Raw(Octets::from_slice(alloc, octets)?)),
+        },
+        ExtensionKind::BasicConstraints => {
+            Ok(ExtensionView::BasicConstraints(read_within(alloc, octets)?))
+        }
+        ExtensionKind::AuthorityKeyIdentifier => Ok(ExtensionView::AuthorityKeyIdentifier(
+            read_within(alloc, octets)?,
+        )),
+        ExtensionKind::ExtendedKeyUsage => {
+            Ok(ExtensionView::ExtendedKeyUsage(read_within(alloc, octets)?))
+        }
+        ExtensionKind::Other => Ok(ExtensionView::Raw(Octets::from_slice(alloc, octets)?)),
+    }
 }
 
 /// The general names that the octets encode, `None` if they encode none.
@@ -171,7 +267,6 @@ impl PartialEq for ExtensionView {
     ghost use Rattle.std.specs.Ordering.{on};
     ghost use Rattle.std.specs.Cmp.Lexicographic.{nat_list_eq_equiv};
     ghost use Rattle.std.specs.Cmp.{on_per, partial_equiv_from_equiv};
-    ghost use Rattle.std.specs.Prelude.{bytes_eq};
     ghost use Rattle.x509_types.specs.ExtensionView.{view_octets};
 
     ghost eq = { on (λ value. view_octets value) bytes_eq };
@@ -183,19 +278,7 @@ impl PartialEq for ExtensionView {
         ensures octets { result ≡ bytes_eq (view_octets self.now) (view_octets other.now) }
         ensures same { IsTrue result ↔ (self.now ≡ other.now) }
     {
-        match (self, other) {
-            (ExtensionView::SubjectKeyIdentifier(a), ExtensionView::SubjectKeyIdentifier(b)) => *a
-                == *b,
-            (ExtensionView::KeyUsage(a), ExtensionView::KeyUsage(b)) => *a == *b,
-            (ExtensionView::SubjectAltName(a), ExtensionView::SubjectAltName(b)) => *a == *b,
-            (ExtensionView::IssuerAltName(a), ExtensionView::IssuerAltName(b)) => *a == *b,
-            (ExtensionView::BasicConstraints(a), ExtensionView::BasicConstraints(b)) => *a == *b,
-            (ExtensionView::AuthorityKeyIdentifier(a), ExtensionView::AuthorityKeyIdentifier(b)) =>
-                *a == *b,
-            (ExtensionView::ExtendedKeyUsage(a), ExtensionView::ExtendedKeyUsage(b)) => *a == *b,
-            (ExtensionView::Raw(a), ExtensionView::Raw(b)) => *a == *b,
-            _ => false,
-        }
+        self.has_same_value(other)
     }
 }
 

@@ -3,7 +3,8 @@ use Rattle.cms_types.specs.Pkcs7.{pkcs7}
 use Rattle.cms_types.specs.SignedData.{signed_data}
 use Rattle.cms_types.specs.SignerInfo.{signer_info}
 use Rattle.cms_types.specs.UnsignedAttribute.{unsigned_attribute}
-use Rattle.cms_types.proofs.SignerLaws.{value_of_signer, signer_of_value, value_of_unsigned, unsigned_of_value, value_of_data, data_of_value, value_of_pkcs7, pkcs7_of_value}
+use Rattle.cms_types.proofs.SignerLaws.{value_of_signer, signer_of_value, value_of_unsigned, unsigned_of_value}
+use Rattle.cms_types.proofs.SignerLaws.{value_of_data, data_of_value, value_of_pkcs7, pkcs7_of_value}
 use Rattle.cms_types.proofs.laws.shapes_are_those_of_values.Goals as goal
 
 pub returns : goal.returns

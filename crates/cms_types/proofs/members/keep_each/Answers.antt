@@ -5,7 +5,8 @@ use Rattle.cms_types.proofs.members.keep_each.Goals as goal
 pub returns-in_err-kept_of : goal.returns-in_err-kept_of
 returns-in_err-kept_of g c =
     let p = err_from_is_err_and c.from_residual.result c.from_residual.ensures.1 in
-    rw (p.1, p.2) (refused_among g.T.Structure.inner g.T.Structure.written _ _ _ _ _ _ c.loop-value.invariant c.in-Some.ensures.cases.0 c.in_err-kept_of.ensures)
+    rw (p.1, p.2)
+    (refused_among g.T.Structure.inner g.T.Structure.written _ _ _ _ _ _ c.loop-value.invariant c.in-Some.ensures.cases.0 c.in_err-kept_of.ensures)
 
 pub loop-value-preserved : goal.loop-value-preserved
 loop-value-preserved g c =

@@ -26,7 +26,8 @@ decreases-are_pkcs7s l = 2 * elements_count (row l.kids.are.0) + 1
 
 abbrev pub invariant-are_unsigned_attributes-loop-kid : goal.invariant-are_unsigned_attributes-loop-kid
 invariant-are_unsigned_attributes-loop-kid l =
-    (elements_count (row l.kids.are.0) ≤ elements_count (row l.initial.kids.are.0)) × (AreUnsignedAttributes l.kids.are.0 ↔ AreUnsignedAttributes l.initial.kids.are.0)
+    (elements_count (row l.kids.are.0) ≤ elements_count (row l.initial.kids.are.0))
+    × (AreUnsignedAttributes l.kids.are.0 ↔ AreUnsignedAttributes l.initial.kids.are.0)
 
 abbrev pub decreases-are_unsigned_attributes-loop-kid : goal.decreases-are_unsigned_attributes-loop-kid
 decreases-are_unsigned_attributes-loop-kid l = length l.kids.are.0

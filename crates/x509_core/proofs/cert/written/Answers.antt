@@ -17,5 +17,8 @@ pub returns : goal.returns
 returns c =
     let w = c.in_ok-tree.ensures in
     MatchResult-weaker c.from_tree.result c.from_tree.ensures.kept
-    (λ raw o. (ap encoding (o.1 ∙ w.0), subst (λ (x : DerElement). IsCertificate x c.args.certificate.now) (sym (o.1 ∙ w.0)) (certificates.spelled c.args.certificate.now w.2)))
+    (λ raw o. (
+      ap encoding (o.1 ∙ w.0),
+      subst (λ (x : DerElement). IsCertificate x c.args.certificate.now) (sym (o.1 ∙ w.0)) (certificates.spelled c.args.certificate.now w.2),
+    ))
     (λ e refused. refuses_last (inner_certificate c.args.certificate.now) _ e w.2 (refuses_alone _ e (subst (λ x. RefusesToWrite x e) w.0 refused)))

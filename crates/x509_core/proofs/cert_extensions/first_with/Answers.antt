@@ -5,7 +5,8 @@ use Rattle.x509_core.proofs.cert_extensions.first_with.Goals as goal
 
 pub returns-then-is_same : goal.returns-then-is_same
 returns-then-is_same c =
-    c.loop-extension.invariant.first _ (here _ _ _ _ c.in-Some.ensures.cases.0 (ap identifier_contents (sym c.extn_id.ensures) ∙ sym c.as_bytes.ensures ∙ c.is_same.ensures.0 c.if-is_same.true))
+    c.loop-extension.invariant.first _
+    (here _ _ _ _ c.in-Some.ensures.cases.0 (ap identifier_contents (sym c.extn_id.ensures) ∙ sym c.as_bytes.ensures ∙ c.is_same.ensures.0 c.if-is_same.true))
 
 pub loop-extension-preserved : goal.loop-extension-preserved
 loop-extension-preserved c =

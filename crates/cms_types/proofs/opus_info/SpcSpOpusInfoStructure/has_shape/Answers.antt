@@ -11,4 +11,5 @@ pub returns-then-has_option-clause-unfit : goal.returns-then-has_option-clause-u
 returns-then-has_option-clause-unfit c = λ no info is. c.has_option-then-has_option.ensures.unfit no info.more_info (parts_of _ _ _ c.in-Some.ensures info is).1
 
 pub returns-else-has_option-clause-unfit : goal.returns-else-has_option-clause-unfit
-returns-else-has_option-clause-unfit c = λ no info is. c.has_option.ensures.unfit c.if-has_option.false info.program_name (parts_of _ _ _ c.in-Some.ensures info is).0
+returns-else-has_option-clause-unfit c =
+    λ no info is. c.has_option.ensures.unfit c.if-has_option.false info.program_name (parts_of _ _ _ c.in-Some.ensures info is).0

@@ -5,7 +5,9 @@ use Rattle.extension_types.specs.Facts.Constraints.{all_basic_constraints, const
 use Rattle.extension_types.proofs.basic_constraints.BasicConstraintsPartialEq.eq.Goals as goal
 
 pub returns-then-eq-clause-octets : goal.returns-then-eq-clause-octets
-returns-then-eq-clause-octets c = octets_decide basic_constraints constraints_printed all_basic_constraints.formed c.args.self.now c.args.other.now _ (search rules)
+returns-then-eq-clause-octets c =
+    octets_decide basic_constraints constraints_printed all_basic_constraints.formed c.args.self.now c.args.other.now _ (search rules)
 
 pub returns-else-eq-clause-octets : goal.returns-else-eq-clause-octets
-returns-else-eq-clause-octets c = octets_decide basic_constraints constraints_printed all_basic_constraints.formed c.args.self.now c.args.other.now _ (search rules)
+returns-else-eq-clause-octets c =
+    octets_decide basic_constraints constraints_printed all_basic_constraints.formed c.args.self.now c.args.other.now _ (search rules)

@@ -27,4 +27,5 @@ pub returns-clause-same : goal.returns-clause-same
 returns-clause-same c = by_purposes _ _ _ c.eq.ensures
 
 pub returns-clause-octets : goal.returns-clause-octets
-returns-clause-octets c = octets_decide extended_key_usage (λ a b e. extended_key_usages.once (extended_key_usage a) a b refl e) extended_key_usages.formed _ _ _ (by_purposes _ _ _ c.eq.ensures)
+returns-clause-octets c = octets_decide extended_key_usage (λ a b e. extended_key_usages.once (extended_key_usage a) a b refl e)
+    extended_key_usages.formed _ _ _ (by_purposes _ _ _ c.eq.ensures)

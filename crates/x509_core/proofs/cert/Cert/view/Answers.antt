@@ -10,4 +10,5 @@ of_known-requires c = known_certificate _ _ _ c.elem.ensures c.self.inside.field
 
 pub returns-clause-elements : goal.returns-clause-elements
 returns-clause-elements c =
-    parts_once _ _ (sym c.of_known.ensures.is ∙ c.elem.ensures ∙ c.self.inside.fields.1.0 ∙ ap (λ (k : KeptCertificate). certificate_of k.elements) c.self.view_is)
+    parts_once _ _ (sym c.of_known.ensures.is ∙ c.elem.ensures ∙ c.self.inside.fields.1.0
+    ∙ ap (λ (k : KeptCertificate). certificate_of k.elements) c.self.view_is)

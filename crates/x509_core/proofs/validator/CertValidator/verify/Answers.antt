@@ -15,7 +15,8 @@ returns-in_err-expect_date g c =
     let p = err_from_is_err_and c.from_residual.result c.from_residual.ensures.1 in
     record {
       answer = λ given gives. rw (p.1, p.2) (inl (inl c.in_err-expect_date.ensures));
-      walked = rw (p.1, p.2) (undated (g.S.Scheme.judge c.args.scheme.now) g.Chain.Iterator.next_gives c.args.self.checks c.args.self.cert.now c.args.self.chain c.in_err-expect_date.field-0.0 c.in_err-expect_date.ensures);
+      walked = rw (p.1, p.2) (undated (g.S.Scheme.judge c.args.scheme.now)
+          g.Chain.Iterator.next_gives c.args.self.checks c.args.self.cert.now c.args.self.chain c.in_err-expect_date.field-0.0 c.in_err-expect_date.ensures);
       memory = rw (p.1, p.2) (λ none. absurd (undated_is_returned c.args.self.checks c.in_err-expect_date.field-0.0 c.in_err-expect_date.ensures none));
     }
 
@@ -27,8 +28,10 @@ returns-in_err-expect_valid g c =
     let broken = subst (λ (kept : KeptCertificate). Breaks (IsOutside w kept) e) c.viewed-checked.ensures c.in_err-expect_valid.ensures.answer in
     let not_valid = subst (λ (kept : KeptCertificate). IsWithinWindow w kept.elements → ⊥) c.viewed-checked.ensures c.in_err-expect_valid.ensures.valid in
     record {
-      answer = λ given gives. rw (p.1, p.2) (outside (g.S.Scheme.judge c.args.scheme.now) c.args.self.checks c.args.self.cert.now given e c.in_ok-expect_date.ensures broken);
-      walked = rw (p.1, p.2) (invalid (g.S.Scheme.judge c.args.scheme.now) g.Chain.Iterator.next_gives c.args.self.checks c.args.self.cert.now c.args.self.chain e c.in_ok-expect_date.ensures broken);
+      answer = λ given gives.
+          rw (p.1, p.2) (outside (g.S.Scheme.judge c.args.scheme.now) c.args.self.checks c.args.self.cert.now given e c.in_ok-expect_date.ensures broken);
+      walked = rw (p.1, p.2) (invalid (g.S.Scheme.judge c.args.scheme.now)
+          g.Chain.Iterator.next_gives c.args.self.checks c.args.self.cert.now c.args.self.chain e c.in_ok-expect_date.ensures broken);
       memory = where_asked c.from_residual-in_err-expect_valid.result (c.in_ok-expect_date.ensures, inl not_valid);
     }
 
@@ -38,7 +41,8 @@ returns-then-not-checks g c =
     let valid = same_valid _ _ _ c.viewed-checked.ensures c.in_ok-expect_valid.ensures.answer in
     record {
       answer = λ given gives. unasked (g.S.Scheme.judge c.args.scheme.now) c.args.self.checks c.args.self.cert.now given c.in_ok-expect_date.ensures valid off;
-      walked = unlooked (g.S.Scheme.judge c.args.scheme.now) g.Chain.Iterator.next_gives c.args.self.checks c.args.self.cert.now c.in_ok-expect_date.ensures valid c.args.self.chain off;
+      walked = unlooked (g.S.Scheme.judge c.args.scheme.now) g.Chain.Iterator.next_gives c.args.self.checks c.args.self.cert.now c.in_ok-expect_date.ensures
+          valid c.args.self.chain off;
       memory = tt;
     }
 
@@ -49,8 +53,10 @@ returns-in_default g c =
     record {
       answer = λ given gives.
           let by = subst (λ (chain : Option _). YieldsParents g.Chain.Iterator.next_gives chain given) c.in_default.is (gives asked) in
-          no_chain (g.S.Scheme.judge c.args.scheme.now) c.args.self.checks c.args.self.cert.now given c.in_ok-expect_date.ensures valid asked g.Chain.Iterator.next_gives by;
-      walked = chainless (g.S.Scheme.judge c.args.scheme.now) g.Chain.Iterator.next_gives c.args.self.checks c.args.self.cert.now c.in_ok-expect_date.ensures valid asked c.args.self.chain c.in_default.is;
+          no_chain (g.S.Scheme.judge c.args.scheme.now) c.args.self.checks c.args.self.cert.now given c.in_ok-expect_date.ensures valid asked
+          g.Chain.Iterator.next_gives by;
+      walked = chainless (g.S.Scheme.judge c.args.scheme.now) g.Chain.Iterator.next_gives c.args.self.checks c.args.self.cert.now c.in_ok-expect_date.ensures
+          valid asked c.args.self.chain c.in_default.is;
       memory = λ none. absurd cc;
     }
 
@@ -59,14 +65,17 @@ returns-in_err-last g c =
     let p = err_from_is_err_and c.from_residual-in_err-last.result c.from_residual-in_err-last.ensures.1 in
     let asked : IsTrue c.args.self.checks.chain = search rules in
     let valid = same_valid _ _ _ c.viewed-checked.ensures c.in_ok-expect_valid.ensures.answer in
-    let refused = same_refusal (g.S.Scheme.judge c.args.scheme.now) g.Chain.Iterator.next_gives _ _ _ c.in-Some.chain c.in_err-last.field-0.0 c.viewed-checked.ensures c.in_err-last.ensures.answer in
+    let refused = same_refusal (g.S.Scheme.judge c.args.scheme.now) g.Chain.Iterator.next_gives _ _ _ c.in-Some.chain c.in_err-last.field-0.0
+    c.viewed-checked.ensures c.in_err-last.ensures.answer in
     record {
       answer = λ given gives.
           let by = subst (λ (chain : Option _). YieldsParents g.Chain.Iterator.next_gives chain given) c.in-Some.is (gives asked) in
-          rw (p.1, p.2) (refused_chain (g.S.Scheme.judge c.args.scheme.now) c.args.self.checks c.args.self.cert.now given c.in_ok-expect_date.ensures valid asked
+          rw (p.1, p.2)
+          (refused_chain (g.S.Scheme.judge c.args.scheme.now) c.args.self.checks c.args.self.cert.now given c.in_ok-expect_date.ensures valid asked
           g.Chain.Iterator.next_gives c.in-Some.chain by c.in_err-last.field-0.0 refused);
       walked =
-          rw (p.1, p.2) (refused_walk (g.S.Scheme.judge c.args.scheme.now) g.Chain.Iterator.next_gives c.args.self.checks c.args.self.cert.now c.in_ok-expect_date.ensures valid asked
+          rw (p.1, p.2) (refused_walk (g.S.Scheme.judge c.args.scheme.now)
+          g.Chain.Iterator.next_gives c.args.self.checks c.args.self.cert.now c.in_ok-expect_date.ensures valid asked
           c.args.self.chain c.in-Some.chain c.in-Some.is c.in_err-last.field-0.0 refused);
       memory = rw (p.1, p.2) (λ none. (
         c.in_ok-expect_date.ensures,

@@ -9,9 +9,11 @@ expect_issuer_of-requires c = (
 )
 
 pub returns-in-Missing-clause-accepted : goal.returns-in-Missing-clause-accepted
-returns-in-Missing-clause-accepted c = λ linked. absurd (lacking _ _ (same_link _ _ _ _ links.Missing c.args.self.now.same c.args.child.now.same c.in-Missing.ensures) linked)
+returns-in-Missing-clause-accepted c =
+    λ linked. absurd (lacking _ _ (same_link _ _ _ _ links.Missing c.args.self.now.same c.args.child.now.same c.in-Missing.ensures) linked)
 
 pub returns-in-Differ-clause-accepted : goal.returns-in-Differ-clause-accepted
 returns-in-Differ-clause-accepted c =
     let link = links.Differ c.in-Differ.expected c.in-Differ.actual in
-    λ linked. absurd (differing _ _ c.in-Differ.expected.now c.in-Differ.actual.now (same_link _ _ _ _ link c.args.self.now.same c.args.child.now.same c.in-Differ.ensures) linked)
+    λ linked. absurd (differing _ _ c.in-Differ.expected.now c.in-Differ.actual.now
+    (same_link _ _ _ _ link c.args.self.now.same c.args.child.now.same c.in-Differ.ensures) linked)

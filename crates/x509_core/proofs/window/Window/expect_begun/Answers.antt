@@ -21,5 +21,6 @@ returns-then-is_earlier c =
 pub returns : goal.returns
 returns c =
     let last : latest c.args.self.now.date ≡ Some c.in-Some.now = search rules in
-    begun_by c.args.self.now (view_elements c.args.view) c.from-not_before.result c.in-Some.now (time_at _ _ _ c.not_before.ensures c.from-not_before.ensures) last
+    begun_by c.args.self.now (view_elements c.args.view) c.from-not_before.result c.in-Some.now
+    (time_at _ _ _ c.not_before.ensures c.from-not_before.ensures) last
     (λ early. false≢true (sym c.if-is_earlier.false ∙ c.is_earlier.ensures.1 early))

@@ -23,5 +23,6 @@ returns-then-is_earlier c =
 pub returns : goal.returns
 returns c =
     let first : earliest c.args.self.now.date ≡ Some c.in-Some.now = search rules in
-    lasts_by c.args.self.now (view_elements c.args.view) c.from-not_after.result c.in-Some.now (time_at _ _ _ c.not_after.ensures c.from-not_after.ensures) first
+    lasts_by c.args.self.now (view_elements c.args.view) c.from-not_after.result c.in-Some.now
+    (time_at _ _ _ c.not_after.ensures c.from-not_after.ensures) first
     (λ early. false≢true (sym c.if-is_earlier.false ∙ c.is_earlier.ensures.1 early))

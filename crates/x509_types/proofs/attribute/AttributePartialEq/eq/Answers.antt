@@ -15,10 +15,12 @@ pub returns-then-eq-clause-same : goal.returns-then-eq-clause-same
 returns-then-eq-clause-same c = by_value c.args.self.now c.args.other.now _ (c.eq.ensures.same.0 c.if-eq.true) c.eq-then-eq.ensures.same
 
 pub returns-then-eq-clause-compared : goal.returns-then-eq-clause-compared
-returns-then-eq-clause-compared c = decided_by_octets attribute_octets attributes_by_octets c.args.self.now c.args.other.now _ (by_value c.args.self.now c.args.other.now _ (c.eq.ensures.same.0 c.if-eq.true) c.eq-then-eq.ensures.same)
+returns-then-eq-clause-compared c = decided_by_octets attribute_octets attributes_by_octets c.args.self.now c.args.other.now _
+    (by_value c.args.self.now c.args.other.now _ (c.eq.ensures.same.0 c.if-eq.true) c.eq-then-eq.ensures.same)
 
 pub returns-then-eq-clause-octets : goal.returns-then-eq-clause-octets
-returns-then-eq-clause-octets c = writable_decide IsAttribute attribute (λ a. inner_values a.value) attributes c.args.self.now c.args.other.now _ (by_value c.args.self.now c.args.other.now _ (c.eq.ensures.same.0 c.if-eq.true) c.eq-then-eq.ensures.same)
+returns-then-eq-clause-octets c = writable_decide IsAttribute attribute (λ a. inner_values a.value) attributes c.args.self.now c.args.other.now _
+    (by_value c.args.self.now c.args.other.now _ (c.eq.ensures.same.0 c.if-eq.true) c.eq-then-eq.ensures.same)
 
 pub returns-else-eq-clause-compared : goal.returns-else-eq-clause-compared
 returns-else-eq-clause-compared c = decided_by_octets attribute_octets attributes_by_octets c.args.self.now c.args.other.now _ (search rules)

@@ -19,7 +19,8 @@ by_octets a b t same =
 
 pub returns-then-has_same_id_and_flag-clause-octets : goal.returns-then-has_same_id_and_flag-clause-octets
 returns-then-has_same_id_and_flag-clause-octets c =
-    writable_decide IsExtension extension (λ e. inner_value e.extn_value) all_extensions c.args.self.now c.args.other.now _ (by_value _ _ _ (c.has_same_id_and_flag.ensures.0 c.if-has_same_id_and_flag.true) c.eq.ensures.same)
+    writable_decide IsExtension extension (λ e. inner_value e.extn_value) all_extensions c.args.self.now c.args.other.now _
+    (by_value _ _ _ (c.has_same_id_and_flag.ensures.0 c.if-has_same_id_and_flag.true) c.eq.ensures.same)
 
 pub returns-else-has_same_id_and_flag-clause-octets : goal.returns-else-has_same_id_and_flag-clause-octets
 returns-else-has_same_id_and_flag-clause-octets c =

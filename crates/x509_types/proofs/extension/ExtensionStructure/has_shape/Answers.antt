@@ -2,7 +2,7 @@ use Rattle.std.proofs.Common.{subst}
 use Rattle.der_core.specs.DerElement.{DerElement}
 use Rattle.x509_types.specs.ExtensionFields.{IsExtensionOf}
 use Rattle.x509_types.specs.ExtensionView.{IsOfKind}
-use Rattle.x509_types.specs.declared.extension.kind.ExtensionKind.{ExtensionKind}
+use Rattle.x509_types.specs.declared.extension.view.ExtensionKind.{ExtensionKind}
 use Rattle.x509_types.proofs.extension.ExtensionStructure.has_shape.Goals as goal
 
 pub returns-in_default-clause-unfit : goal.returns-in_default-clause-unfit

@@ -15,5 +15,7 @@ returns-in_err-oid c =
 
 pub returns : goal.returns
 returns c =
-    let fields = c.in_ok-fields.fields in
-    (fields.critical, subst (λ (o : DerElement). IsExtensionOf c.args.extension.is.0 o fields.critical fields.value.now) c.in_ok-oid.ensures c.in_ok-fields.ensures)
+    let fields = c.in_ok-fields.fields in (
+      fields.critical,
+      subst (λ (o : DerElement). IsExtensionOf c.args.extension.is.0 o fields.critical fields.value.now) c.in_ok-oid.ensures c.in_ok-fields.ensures,
+    )

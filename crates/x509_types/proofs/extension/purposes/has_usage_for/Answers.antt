@@ -4,7 +4,8 @@ use Rattle.x509_types.proofs.Somewhere.{some_here, some_later, some_passed, none
 use Rattle.x509_types.proofs.extension.purposes.has_usage_for.Goals as goal
 
 pub returns-then-is_usage_for : goal.returns-then-is_usage_for
-returns-then-is_usage_for c = (λ w. c.loop-kid.invariant.enough (some_here _ _ _ _ c.in-Some.ensures (c.is_usage_for.ensures.0 c.if-is_usage_for.true)), λ has. refl)
+returns-then-is_usage_for c =
+    (λ w. c.loop-kid.invariant.enough (some_here _ _ _ _ c.in-Some.ensures (c.is_usage_for.ensures.0 c.if-is_usage_for.true)), λ has. refl)
 
 pub loop-kid-preserved : goal.loop-kid-preserved
 loop-kid-preserved c = record {

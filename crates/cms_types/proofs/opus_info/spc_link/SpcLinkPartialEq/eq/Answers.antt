@@ -12,4 +12,5 @@ pub returns-clause-same : goal.returns-clause-same
 returns-clause-same c = by_field c.args.self.now c.args.other.now _ c.eq.ensures.same
 
 pub returns-clause-octets : goal.returns-clause-octets
-returns-clause-octets c = octets_decide spc_link (λ a b e. spc_links.once (spc_link a) a b refl e) spc_links.formed c.args.self.now c.args.other.now _ (returns-clause-same c)
+returns-clause-octets c =
+    octets_decide spc_link (λ a b e. spc_links.once (spc_link a) a b refl e) spc_links.formed c.args.self.now c.args.other.now _ (returns-clause-same c)

@@ -8,4 +8,5 @@ use Rattle.cms_types.proofs.signer_info.identifier.SignerIdentifierPartialEq.eq.
 pub returns-in-SubjectKeyIdentifier-SubjectKeyIdentifier-clause-octets : goal.returns-in-SubjectKeyIdentifier-SubjectKeyIdentifier-clause-octets
 returns-in-SubjectKeyIdentifier-SubjectKeyIdentifier-clause-octets c =
     by_octets signer_identifier signer_identifiers _ _ _
-    (same_whole named.SubjectKeyIdentifier (λ a b e. cc) _ _ _ _ _ c.in-SubjectKeyIdentifier-SubjectKeyIdentifier.is-0 c.in-SubjectKeyIdentifier-SubjectKeyIdentifier.is-1 c.eq-in-SubjectKeyIdentifier-SubjectKeyIdentifier.ensures.same)
+    (same_whole named.SubjectKeyIdentifier (λ a b e. cc) _ _ _ _ _ c.in-SubjectKeyIdentifier-SubjectKeyIdentifier.is-0
+    c.in-SubjectKeyIdentifier-SubjectKeyIdentifier.is-1 c.eq-in-SubjectKeyIdentifier-SubjectKeyIdentifier.ensures.same)

@@ -6,4 +6,5 @@ use Rattle.cms_types.proofs.signer_info.signed_attributes.SignedAttributesPartia
 
 pub returns-clause-same : goal.returns-clause-same
 returns-clause-same c =
-    by_kept signed_attributes all_signed_attributes c.args.self.now c.args.other.now c.args.self.now.element c.args.other.now.element _ refl refl c.eq.ensures.same
+    by_kept signed_attributes all_signed_attributes c.args.self.now c.args.other.now c.args.self.now.element c.args.other.now.element _ refl refl
+    c.eq.ensures.same

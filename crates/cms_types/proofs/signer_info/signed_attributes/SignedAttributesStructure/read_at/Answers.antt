@@ -13,4 +13,5 @@ returns-in_err-list c =
     rw (p.1, p.2) (refuses_as _ _ _ (λ none v is. no_signed _ v is none) c.in_err-list.ensures)
 
 pub invariant_of-result : goal.invariant_of-result
-invariant_of-result c = record { are = merely (subst (λ (t : DerElement). AreAttributes t c.in_ok-list.list) (sym c.in_ok-element.ensures) c.in_ok-list.ensures) }
+invariant_of-result c =
+    record { are = merely (subst (λ (t : DerElement). AreAttributes t c.in_ok-list.list) (sym c.in_ok-element.ensures) c.in_ok-list.ensures) }

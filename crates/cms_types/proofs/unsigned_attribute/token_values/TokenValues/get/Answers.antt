@@ -6,8 +6,10 @@ use Rattle.cms_types.proofs.unsigned_attribute.token_values.TokenValues.get.Goal
 
 pub want_of_memory-requires : goal.want_of_memory-requires
 want_of_memory-requires c =
-    token_refused c.args.self.now _ _ _ _ _ c.as_slice.ensures (slice_get_read c.as_slice.result.now _ c.args.place c.in-Some.member.now refl (search rules) c.in-Some.ensures.lookup.1) c.elem.ensures c.in-Err.ensures
+    token_refused c.args.self.now _ _ _ _ _ c.as_slice.ensures
+    (slice_get_read c.as_slice.result.now _ c.args.place c.in-Some.member.now refl (search rules) c.in-Some.ensures.lookup.1) c.elem.ensures c.in-Err.ensures
 
 pub returns-in-Ok-clause-found : goal.returns-in-Ok-clause-found
 returns-in-Ok-clause-found c =
-    member_found pkcs7 c.args.self.now.items _ _ _ _ c.in-Ok.token c.as_slice.ensures (slice_get_read c.as_slice.result.now _ c.args.place c.in-Some.member.now refl (search rules) c.in-Some.ensures.lookup.1) c.elem.ensures c.in-Ok.ensures
+    member_found pkcs7 c.args.self.now.items _ _ _ _ c.in-Ok.token c.as_slice.ensures
+    (slice_get_read c.as_slice.result.now _ c.args.place c.in-Some.member.now refl (search rules) c.in-Some.ensures.lookup.1) c.elem.ensures c.in-Ok.ensures

@@ -16,10 +16,14 @@ returns-in_err-contents c = rw c.from_residual-in_err-contents.ensures (λ f is.
 
 pub returns-in_err-_unused : goal.returns-in_err-_unused
 returns-in_err-_unused c =
-    rw c.from_residual-in_err-_unused.ensures (λ f is. no_bits _ _ f.unused f.signature c.in_err-_unused.ensures.cases c.in_ok-contents.ensures (three_parts _ _ _ _ f c.in-Some.ensures is).2)
+    rw c.from_residual-in_err-_unused.ensures
+    (λ f is. no_bits _ _ f.unused f.signature c.in_err-_unused.ensures.cases c.in_ok-contents.ensures (three_parts _ _ _ _ f c.in-Some.ensures is).2)
 
 pub invariant_of-result : goal.invariant_of-result
-invariant_of-result c = record { signed = c.in_ok-fields.ensures; bits = counted _ _ _ (c.in_ok-contents.ensures ∙ ap (Primitive 0x03) c.in_ok-_unused.ensures.cases.0) }
+invariant_of-result c = record {
+  signed = c.in_ok-fields.ensures;
+  bits = counted _ _ _ (c.in_ok-contents.ensures ∙ ap (Primitive 0x03) c.in_ok-_unused.ensures.cases.0);
+}
 
 pub returns : goal.returns
 returns c =

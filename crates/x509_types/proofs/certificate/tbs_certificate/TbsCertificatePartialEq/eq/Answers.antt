@@ -9,10 +9,12 @@ pub returns-then-eq-5-clause-compared : goal.returns-then-eq-5-clause-compared
 returns-then-eq-5-clause-compared c = decided_by_octets tbs_octets tbs_by_octets c.args.self.now c.args.other.now _ (search rules)
 
 pub returns-then-eq-5-clause-octets : goal.returns-then-eq-5-clause-octets
-returns-then-eq-5-clause-octets c = writable_decide IsTbsCertificate tbs_certificate inner_tbs tbs_certificates c.args.self.now c.args.other.now _ (search rules)
+returns-then-eq-5-clause-octets c =
+    writable_decide IsTbsCertificate tbs_certificate inner_tbs tbs_certificates c.args.self.now c.args.other.now _ (search rules)
 
 pub returns-else-eq-5-clause-compared : goal.returns-else-eq-5-clause-compared
 returns-else-eq-5-clause-compared c = decided_by_octets tbs_octets tbs_by_octets c.args.self.now c.args.other.now _ (search rules)
 
 pub returns-else-eq-5-clause-octets : goal.returns-else-eq-5-clause-octets
-returns-else-eq-5-clause-octets c = writable_decide IsTbsCertificate tbs_certificate inner_tbs tbs_certificates c.args.self.now c.args.other.now _ (search rules)
+returns-else-eq-5-clause-octets c =
+    writable_decide IsTbsCertificate tbs_certificate inner_tbs tbs_certificates c.args.self.now c.args.other.now _ (search rules)

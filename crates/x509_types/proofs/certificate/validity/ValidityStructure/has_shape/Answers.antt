@@ -9,5 +9,6 @@ returns-then-has_shape-clause-fits c = λ w.
     let before = c.has_shape.ensures.fits c.if-has_shape.true in
     let after = c.has_shape-then-has_shape.ensures.fits w in (
       record { not_before = before.0; not_after = after.0 },
-      c.in-Some.ensures ∙ ap (λ (e : DerElement). sequence (e ∷ c.in-Some.not_after.is.0 ∷ [])) before.1 ∙ ap (λ (e : DerElement). sequence (time before.0 ∷ e ∷ [])) after.1,
+      c.in-Some.ensures ∙ ap (λ (e : DerElement). sequence (e ∷ c.in-Some.not_after.is.0 ∷ [])) before.1
+          ∙ ap (λ (e : DerElement). sequence (time before.0 ∷ e ∷ [])) after.1,
     )

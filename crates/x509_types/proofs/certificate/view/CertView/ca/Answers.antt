@@ -5,7 +5,8 @@ use Rattle.x509_types.proofs.FoundSoFar.{none_found, first_found, unheld, held}
 use Rattle.x509_types.proofs.certificate.view.CertView.ca.Goals as goal
 
 pub returns-in_err-octets : goal.returns-in_err-octets
-returns-in_err-octets c = rw c.from_residual.ensures (λ x says. none_found _ _ _ _ c.in_err-octets.was c.args.self.now.first (λ found. found.constraints) says.1.octets says.1.first)
+returns-in_err-octets c =
+    rw c.from_residual.ensures (λ x says. none_found _ _ _ _ c.in_err-octets.was c.args.self.now.first (λ found. found.constraints) says.1.octets says.1.first)
 
 pub returns-in_err-constraints : goal.returns-in_err-constraints
 returns-in_err-constraints c =

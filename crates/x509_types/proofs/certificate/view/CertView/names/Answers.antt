@@ -8,7 +8,8 @@ use Rattle.x509_types.proofs.Somewhere.{none_there}
 use Rattle.x509_types.proofs.certificate.view.CertView.names.Goals as goal
 
 pub returns-then-not-has_purposes : goal.returns-then-not-has_purposes
-returns-then-not-has_purposes c = (λ w. absurd cc, λ names. absurd (iff_false c.has_purposes.ensures c.if-not-has_purposes.true (some_purposes (view_elements c.args.self.now) _ names)))
+returns-then-not-has_purposes c =
+    (λ w. absurd cc, λ names. absurd (iff_false c.has_purposes.ensures c.if-not-has_purposes.true (some_purposes (view_elements c.args.self.now) _ names)))
 
 pub returns-in-Some : goal.returns-in-Some
 returns-in-Some c =

@@ -11,5 +11,6 @@ returns-in_err-contents c = rw c.from_residual-in_err-contents.ensures (λ info 
 pub returns : goal.returns
 returns c = (
   ap (kid 0) c.in_ok-algorithm.ensures,
-  ap (λ (e : DerElement). bits_of (kid 1 e)) c.in_ok-algorithm.ensures ∙ ap (λ (e : DerElement). bits_of (Some e)) (c.in_ok-contents.ensures ∙ ap (Primitive 0x03) c.in_ok-_unused.ensures.cases.0),
+  ap (λ (e : DerElement). bits_of (kid 1 e)) c.in_ok-algorithm.ensures
+      ∙ ap (λ (e : DerElement). bits_of (Some e)) (c.in_ok-contents.ensures ∙ ap (Primitive 0x03) c.in_ok-_unused.ensures.cases.0),
 )

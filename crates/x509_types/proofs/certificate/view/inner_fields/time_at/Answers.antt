@@ -8,4 +8,5 @@ pub returns-in_err-contents : goal.returns-in_err-contents
 returns-in_err-contents c = rw c.from_residual-in_err-contents.ensures (no_time _ c.in_default.ensures c.in_err-contents.ensures)
 
 pub returns-in_err-from_content-2 : goal.returns-in_err-from_content-2
-returns-in_err-from_content-2 c = rw c.from_residual-in_err-from_content-2.ensures (no_generalized _ _ c.in_ok-contents.ensures c.in_err-from_content-2.ensures.read)
+returns-in_err-from_content-2 c =
+    rw c.from_residual-in_err-from_content-2.ensures (no_generalized _ _ c.in_ok-contents.ensures c.in_err-from_content-2.ensures.read)

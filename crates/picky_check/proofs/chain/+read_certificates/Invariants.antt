@@ -1,5 +1,0 @@
-use Rattle.std.proofs.Common.{length}
-use Rattle.picky_check.proofs.chain.+read_certificates.Given as goal
-
-abbrev pub decreases-read_certificates : goal.decreases-read_certificates
-decreases-read_certificates l = length l.octets.now
