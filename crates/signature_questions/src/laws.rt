@@ -137,7 +137,8 @@ pub fn tables_decide()
 /// A verdict table may serve many files. Where its rows that name a signature of a question have the
 /// verdict of a scheme on it, and each question that isn't rejected has its row, it decides as the
 /// scheme, whatever other rows it has: `agreed`, `answer`, `trusted`, `chain` and `chain_accepted`
-/// are those of `tables_decide`, for such tables. Two tables behind each other, each with the rows of
+/// are those of `tables_decide`, for such tables, and `link` is that for the questions about one
+/// certificate under the key of another. Two tables behind each other, each with the rows of
 /// one file, are one of both files, unless a question of each has the same digests and another
 /// verdict (`joined`).
 pub fn shared_tables_decide()
@@ -160,6 +161,9 @@ pub fn shared_tables_decide()
         → HasAcceptedRowsOf judge (IsOfChain checked parents) rows
         → Admits (IsOfChain checked parents) judge (verdict_of rows)
         × Admits (IsOfChain checked parents) (verdict_of rows) judge }
+    ensures link { (judge : Judge) (parent child : CertificateElements) (rows : List VerdictRow)
+        → HasRowsOf judge (IsOfLink parent child) rows
+        → Agree (IsOfLink parent child) judge (verdict_of rows) }
     ensures joined { (judge : Judge) (f g : SignedDataElements) (rows more : List VerdictRow)
         → AreRowsOf judge (IsQuestion f) rows → AreRowsOf judge (IsQuestion g) more
         → AreApart judge (IsQuestion f) (IsQuestion g)

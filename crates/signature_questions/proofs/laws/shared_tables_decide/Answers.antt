@@ -1,5 +1,5 @@
 use Rattle.sig_core.specs.VerdictTable.{verdict_of}
-use Rattle.signature_questions.specs.Asked.{IsOfChain, IsQuestion}
+use Rattle.signature_questions.specs.Asked.{IsOfChain, IsOfLink, IsQuestion}
 use Rattle.signature_questions.proofs.Admitted.{trusted}
 use Rattle.signature_questions.proofs.Agreed.{answered, turned}
 use Rattle.signature_questions.proofs.Tables.{accepted_rows_admit, accepted_rows_are_admitted, joined_rows, rows_agree}
@@ -27,6 +27,9 @@ returns-clause-chain c = λ judge checked parents rows has. rows_agree judge (Is
 pub returns-clause-chain_accepted : goal.returns-clause-chain_accepted
 returns-clause-chain_accepted c = λ judge checked parents rows has.
     (accepted_rows_admit judge (IsOfChain checked parents) rows has, accepted_rows_are_admitted judge (IsOfChain checked parents) rows has)
+
+pub returns-clause-link : goal.returns-clause-link
+returns-clause-link c = λ judge parent child rows has. rows_agree judge (IsOfLink parent child) rows has
 
 pub returns-clause-joined : goal.returns-clause-joined
 returns-clause-joined c = λ judge f g rows more are also apart. joined_rows judge (IsQuestion f) (IsQuestion g) _ rows more are also apart
