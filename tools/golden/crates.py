@@ -19,7 +19,7 @@ sys.path.insert(0, str(Path(__file__).resolve().parents[1]))
 from common import command
 from golden import (
     anchor_vectors, basic_vectors, check_vectors, der_vectors, histories_vectors, image_vectors, issuing_vectors,
-    kept_vectors, path_vectors, pe_vectors, questions_vectors, register_vectors, run_vectors, stored_run, value_vectors,
+    kept_vectors, layout_vectors, path_vectors, pe_vectors, questions_vectors, register_vectors, run_vectors, stored_run, value_vectors,
 )
 
 # The kinds of each program, in the order of its output.
@@ -39,6 +39,7 @@ CRATES = {
     "xgolden_kept": {"kept": kept_vectors.vectors},
     "xgolden_run": {
         "pe": pe_vectors.vectors,
+        "layout": layout_vectors.vectors,
         "image": image_vectors.vectors,
         "anchor": anchor_vectors.vectors,
         "questions": questions_vectors.vectors,

@@ -25,17 +25,17 @@ def places(octets):
     """Where the checksum, the table's entry and the table begin."""
     if len(octets) < 64 or octets[:2] != b"MZ":
         raise NotSigned("the file has no MS-DOS header, so it is no program")
-    signature = number(octets, 60, 4)
-    if len(octets) < signature + 26 or octets[signature:signature + 4] != b"PE\0\0":
+    mark = number(octets, 60, 4)
+    if len(octets) < mark + 26 or octets[mark:mark + 4] != b"PE\0\0":
         raise NotSigned("the file has no PE signature, so it is no program")
-    header = signature + 24
+    header = mark + 24
     magic = number(octets, header, 2)
     if magic not in FORMATS:
         raise NotSigned(f"unknown magic number 0x{magic:04x} of an optional header (known are 0x010b and 0x020b)")
     count_at, directories = FORMATS[magic]
     entry = header + directories + ENTRY
     behind = entry + ENTRY_LENGTH
-    if number(octets, signature + 20, 2) < behind - header or len(octets) < behind or number(octets, header + count_at, 4) < 5:
+    if number(octets, mark + 20, 2) < behind - header or len(octets) < behind or number(octets, header + count_at, 4) < 5:
         raise NotSigned("the optional header has no data directory of certificates")
     address, size = number(octets, entry, 4), number(octets, entry + 4, 4)
     if size == 0:

@@ -31,7 +31,7 @@ use std::alloc::{AllocError, Global};
 use x509_core::Cert;
 
 /// The identifier of a certificate: its issuer and its serial number (RFC 5652 10.2.4).
-pub fn named_by(alloc: Global, certificate: &Cert) -> Result<SignerIdentifier, AllocError>
+pub(crate) fn named_by(alloc: Global, certificate: &Cert) -> Result<SignerIdentifier, AllocError>
     ensures { IfOk result
         (λ sid. signer_identifier sid ≡ issuer_and_serial_of certificate.now.elements) }
 {

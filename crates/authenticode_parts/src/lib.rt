@@ -14,7 +14,7 @@ mod signing;
 pub use attributes::{attributes_of, keep_attributes, message_of, opus_of};
 pub use carrying::kept_certificates;
 pub use content::{content_of, digest_of_content, indirect_of};
-pub use frame::{digests_of, framed, named_by, signer_info_of, signers_of};
+pub use frame::{digests_of, framed, signer_info_of, signers_of};
 pub use program::program_signature;
 pub use roots::{carried_of, without_roots};
 pub use signing::signature_of;

@@ -1,2 +1,5 @@
 pub mod Numbers
 pub mod Parts
+pub mod FixedImages
+pub mod Layouts
+pub mod Tables

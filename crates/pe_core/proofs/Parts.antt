@@ -54,7 +54,7 @@ module _ (holds : ℕ → Bool) (octets : List ℕ) where
   abbrev behind : ℕ → List ℕ
   behind i = octets_where holds i (drop i octets)
 
-  length_of : (i j : ℕ) → i ≤ j → j ≤ length octets → i + length (slice_range octets i j) ≡ j
+  pub length_of : (i j : ℕ) → i ≤ j → j ≤ length octets → i + length (slice_range octets i j) ≡ j
   length_of i j low high = omega (arith, low, high, length-take {A = ℕ} (j - i) (drop i octets), length-drop {A = ℕ} i octets)
 
   halved : (i j : ℕ) → i ≤ j → j ≤ length octets → behind i ≡ octets_where holds i (slice_range octets i j) ++ behind j
@@ -102,7 +102,7 @@ inside : (start size k : ℕ) → start ≤ k → k < start + size → is_within
 inside start size k low high =
     ap (λ (b : Bool). b && nat_lt k (start + size)) (le-leb start k low) ∙ lt-ltb k (start + size) high
 
-yes : (a b d : Bool) → a ≡ false → b ≡ false → d ≡ true → (not a && (not b && d)) ≡ true
+pub yes : (a b d : Bool) → a ≡ false → b ≡ false → d ≡ true → (not a && (not b && d)) ≡ true
 yes true b d p q r = absurd cc
 yes false true d p q r = absurd cc
 yes false false d p q r = r
@@ -139,7 +139,7 @@ module _ (c e t : ℕ) (checksum_first : c + 4 ≤ e) (entry_first : e + 8 ≤ t
   in_entry : (k : ℕ) → e ≤ k → k < e + 8 → holds k ≡ false
   in_entry k l h = in_second (is_within c 4 k) (is_within e 8 k) (nat_lt k t) (inside e 8 k l h)
 
-  in_rest : (k : ℕ) → e + 8 ≤ k → k < t → holds k ≡ true
+  pub in_rest : (k : ℕ) → e + 8 ≤ k → k < t → holds k ≡ true
   in_rest k l h = yes (is_within c 4 k) (is_within e 8 k) (nat_lt k t) (after c 4 k (omega (arith, l, checksum_first))) (after e 8 k l) (lt-ltb k t h)
 
   in_table : (k : ℕ) → t ≤ k → holds k ≡ false
@@ -163,7 +163,7 @@ module _ (c e t : ℕ) (checksum_first : c + 4 ≤ e) (entry_first : e + 8 ≤ t
 
 -- ---- images
 
-far_enough : (format : PeFormat) → 96 ≤ directories_offset format
+pub far_enough : (format : PeFormat) → 96 ≤ directories_offset format
 far_enough Pe32 = omega arith
 far_enough Pe32Plus = omega arith
 

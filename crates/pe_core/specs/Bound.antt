@@ -1,6 +1,6 @@
 -- The octets of an image that its signature is about, and the parts that they are in (Windows
 -- Authenticode Portable Executable Signature Format, "Calculating the PE Image Hash").
-use Rattle.std.specs.Prelude.{ℕ, suc, ◌+◌, Bool, not, ◌&&◌, if◌then◌else◌, nat_le, nat_lt, List, [], ◌∷◌, length, slice_range}
+use Rattle.std.specs.Prelude.{◌≡◌, ℕ, suc, ◌+◌, Bool, not, ◌&&◌, if◌then◌else◌, nat_le, nat_lt, List, [], ◌∷◌, length, slice_range}
 use Rattle.pe_core.specs.Fields.{checksum_offset, entry_offset, table_offset}
 
 -- an offset is in a part, given by its offset and its length
@@ -40,3 +40,13 @@ rest_of octets = slice_range octets (entry_offset octets + 8) (table_offset octe
 -- the table
 abbrev pub table_of : List ℕ → List ℕ
 table_of octets = slice_range octets (table_offset octets) (length octets)
+
+-- Two files have the checksum, the table's entry and the table at the same offsets, and the same
+-- octets before the checksum, between both and between entry and table.
+pub record HaveSameParts (a b : List ℕ) : Type 0 where
+  pub checksum : checksum_offset a ≡ checksum_offset b
+  pub entry : entry_offset a ≡ entry_offset b
+  pub table : table_offset a ≡ table_offset b
+  pub head : head_of a ≡ head_of b
+  pub middle : middle_of a ≡ middle_of b
+  pub rest : rest_of a ≡ rest_of b

@@ -13,17 +13,17 @@ u16_at octets offset = from_le_bytes w16 (slice_range octets offset (offset + 2)
 unfoldable pub u32_at : List ℕ → ℕ → ℕ
 u32_at octets offset = from_le_bytes w32 (slice_range octets offset (offset + 4))
 
--- e_lfanew of the MS-DOS header: the offset of the PE signature
-abbrev pub signature_offset : List ℕ → ℕ
-signature_offset octets = u32_at octets 60
+-- e_lfanew of the MS-DOS header: the offset of the PE mark
+abbrev pub mark_offset : List ℕ → ℕ
+mark_offset octets = u32_at octets 60
 
--- SizeOfOptionalHeader, behind the signature's four octets and sixteen of the COFF header
+-- SizeOfOptionalHeader, behind the mark's four octets and sixteen of the COFF header
 abbrev pub header_size : List ℕ → ℕ
-header_size octets = u16_at octets (signature_offset octets + 20)
+header_size octets = u16_at octets (mark_offset octets + 20)
 
--- the optional header is behind the signature and the twenty octets of the COFF header
+-- the optional header is behind the mark and the twenty octets of the COFF header
 abbrev pub header_offset : List ℕ → ℕ
-header_offset octets = signature_offset octets + 24
+header_offset octets = mark_offset octets + 24
 
 -- Magic, the first field of the optional header
 abbrev pub magic_of : List ℕ → ℕ

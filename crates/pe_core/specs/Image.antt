@@ -2,7 +2,7 @@
 -- Format; Windows Authenticode Portable Executable Signature Format).
 use Rattle.std.specs.Prelude.{◌≡◌, ◌≢◌, ◌⊎◌, ℕ, ◌+◌, ◌≤◌, List, [], ◌∷◌, length}
 use Rattle.der_core.specs.Rules.{Rule}
-use Rattle.pe_core.specs.Fields.{u16_at, u32_at, signature_offset, header_size, header_offset, magic_of}
+use Rattle.pe_core.specs.Fields.{u16_at, u32_at, mark_offset, header_size, header_offset, magic_of}
 use Rattle.pe_core.specs.Fields.{format_of, entry_end, directory_count, entry_offset, table_offset, table_size}
 use Rattle.pe_core.specs.declared.error.PeError.{PeError}
 use Rattle.pe_core.specs.declared.error.PeError.TheVariants as errors
@@ -12,10 +12,10 @@ pub record HasDosHeader (octets : List ℕ) : Type 0 where
   pub whole : 64 ≤ length octets
   pub marked : u16_at octets 0 ≡ 0x5a4d
 
--- The signature is PE and two zeros, and the file has the first field of the optional header.
-pub record HasSignature (octets : List ℕ) : Type 0 where
+-- The PE mark is PE and two zeros, and the file has the first field of the optional header.
+pub record HasMark (octets : List ℕ) : Type 0 where
   pub whole : header_offset octets + 2 ≤ length octets
-  pub marked : u32_at octets (signature_offset octets) ≡ 0x4550
+  pub marked : u32_at octets (mark_offset octets) ≡ 0x4550
 
 -- the magic number of PE32 or that of PE32+
 abbrev pub IsMagic : ℕ → Type 0
@@ -36,7 +36,7 @@ pub record EndsWithTable (octets : List ℕ) : Type 0 where
 -- The file is an image with a certificate table at its end.
 pub record IsSignedImage (octets : List ℕ) : Type 0 where
   pub dos : HasDosHeader octets
-  pub signature : HasSignature octets
+  pub mark : HasMark octets
   pub magic : IsMagic (magic_of octets)
   pub directory : HasDirectory octets
   pub filled : table_size octets ≢ 0
@@ -48,9 +48,9 @@ pub record IsSignedImage (octets : List ℕ) : Type 0 where
 abbrev pub LacksDosHeader : List ℕ → Rule PeError
 LacksDosHeader octets e = (HasDosHeader octets → ⊥) × (e ≡ errors.NotMz)
 
--- there is no signature
-abbrev pub LacksSignature : List ℕ → Rule PeError
-LacksSignature octets e = (HasSignature octets → ⊥) × (e ≡ errors.NotPe)
+-- there is no PE mark
+abbrev pub LacksMark : List ℕ → Rule PeError
+LacksMark octets e = (HasMark octets → ⊥) × (e ≡ errors.NotPe)
 
 -- the magic number is that of no format
 abbrev pub HasOtherMagic : List ℕ → Rule PeError
@@ -78,5 +78,5 @@ table_rules octets = LacksTable octets ∷ HasTableElsewhere octets ∷ []
 -- The rules for an image, in order.
 abbrev pub image_rules : List ℕ → List (Rule PeError)
 image_rules octets =
-    LacksDosHeader octets ∷ LacksSignature octets ∷ HasOtherMagic octets ∷ LacksDirectory octets ∷
+    LacksDosHeader octets ∷ LacksMark octets ∷ HasOtherMagic octets ∷ LacksDirectory octets ∷
     table_rules octets

@@ -13,8 +13,8 @@ use thiserror::Error;
 pub enum PeError {
     /// The file has no MS-DOS header.
     NotMz,
-    /// The file has no PE signature at the offset that the MS-DOS header gives, or it ends before
-    /// the optional header.
+    /// The file has no PE mark, PE and two zeros, at the offset that the MS-DOS header gives, or it
+    /// ends before the optional header.
     NotPe,
     /// The optional header is neither that of PE32 nor that of PE32+.
     WrongMagic { got: u16 },

@@ -24,3 +24,25 @@ pub(crate) fn u32_at(bytes: &[u8], offset: usize) -> Option<u32>
     };
     Some(u32::from_le_bytes([*first, *second, *third, *fourth]))
 }
+
+/// The number of two octets at an offset within the octets.
+pub(crate) fn known_u16(bytes: &[u8], offset: usize) -> u16
+    requires { offset + 2 ≤ length bytes.now }
+    ensures { result ≡ u16_at bytes.now offset }
+{
+    match u16_at(bytes, offset) {
+        Some(number) => number,
+        None => unreachable!(),
+    }
+}
+
+/// The number of four octets at an offset within the octets.
+pub(crate) fn known_u32(bytes: &[u8], offset: usize) -> u32
+    requires { offset + 4 ≤ length bytes.now }
+    ensures { result ≡ u32_at bytes.now offset }
+{
+    match u32_at(bytes, offset) {
+        Some(number) => number,
+        None => unreachable!(),
+    }
+}

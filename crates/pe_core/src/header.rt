@@ -2,27 +2,27 @@
 
 ghost use Rattle.std.specs.Prelude.{◌≡◌, ◌≢◌, ◌+◌, ◌<◌, ◌≤◌, ◌^◌, length, MatchResult};
 ghost use Rattle.der_core.specs.Rules.{IsFirstBroken};
-ghost use Rattle.pe_core.specs.Fields.{entry_offset, format_of, header_offset, header_size, magic_of, signature_offset, table_offset, table_size};
-ghost use Rattle.pe_core.specs.Image.{EndsWithTable, HasDirectory, HasDosHeader, HasSignature, IsMagic, LacksDirectory, LacksDosHeader, LacksSignature, table_rules};
+ghost use Rattle.pe_core.specs.Fields.{entry_offset, format_of, header_offset, header_size, magic_of, mark_offset, table_offset, table_size};
+ghost use Rattle.pe_core.specs.Image.{EndsWithTable, HasDirectory, HasDosHeader, HasMark, IsMagic, LacksDirectory, LacksDosHeader, LacksMark, table_rules};
 
 use crate::error::PeError;
 use crate::fields::{u16_at, u32_at};
 use crate::format::PeFormat;
 
 /// MZ (winnt.h: IMAGE_DOS_SIGNATURE).
-const DOS_SIGNATURE: u16 = 0x5a4d;
+const DOS_MARK: u16 = 0x5a4d;
 
-/// PE and two zeros (winnt.h: IMAGE_NT_SIGNATURE).
-const PE_SIGNATURE: u32 = 0x4550;
+/// The PE mark: PE and two zeros (winnt.h: IMAGE_NT_SIGNATURE).
+const PE_MARK: u32 = 0x4550;
 
-/// The offset at which the MS-DOS header has that of the PE signature.
-const SIGNATURE_OFFSET: usize = 60;
+/// The offset at which the MS-DOS header has that of the PE mark.
+pub(crate) const MARK_OFFSET: usize = 60;
 
-/// The offset of the optional header's size, from the PE signature.
-const HEADER_SIZE: usize = 20;
+/// The offset of the optional header's size, from the PE mark.
+pub(crate) const HEADER_SIZE: usize = 20;
 
-/// How many octets the PE signature and the COFF header have.
-const COFF_LENGTH: usize = 24;
+/// How many octets the PE mark and the COFF header have.
+pub(crate) const COFF_LENGTH: usize = 24;
 
 /// The offset of the certificate table's entry in the data directories, where it is the fifth.
 const CERTIFICATE_ENTRY: usize = 32;
@@ -43,24 +43,24 @@ pub(crate) struct OptionalHeader {
 }
 
 impl OptionalHeader {
-    /// The optional header behind the PE signature.
-    pub(crate) fn of(bytes: &[u8], signature: u32) -> Result<OptionalHeader, PeError>
-        requires { signature ≡ signature_offset bytes.now }
+    /// The optional header behind the PE mark.
+    pub(crate) fn of(bytes: &[u8], mark: u32) -> Result<OptionalHeader, PeError>
+        requires { mark ≡ mark_offset bytes.now }
         ensures { MatchResult result
-            (λ header. HasSignature bytes.now × (header.offset ≡ header_offset bytes.now)
+            (λ header. HasMark bytes.now × (header.offset ≡ header_offset bytes.now)
             × (header.size ≡ header_size bytes.now) × (header.magic ≡ magic_of bytes.now))
-            (LacksSignature bytes.now) }
+            (LacksMark bytes.now) }
     {
-        let signature = signature as usize;
-        let offset = signature + COFF_LENGTH;
-        let Some(size) = u16_at(bytes, signature + HEADER_SIZE) else {
+        let mark = mark as usize;
+        let offset = mark + COFF_LENGTH;
+        let Some(size) = u16_at(bytes, mark + HEADER_SIZE) else {
             return Err(PeError::NotPe);
         };
         let Some(magic) = u16_at(bytes, offset) else {
             return Err(PeError::NotPe);
         };
-        match u32_at(bytes, signature) {
-            Some(PE_SIGNATURE) => Ok(OptionalHeader {
+        match u32_at(bytes, mark) {
+            Some(PE_MARK) => Ok(OptionalHeader {
                 offset,
                 size,
                 magic,
@@ -82,17 +82,17 @@ impl OptionalHeader {
     }
 }
 
-/// The offset of the PE signature, from the MS-DOS header.
-pub(crate) fn signature_of(bytes: &[u8]) -> Result<u32, PeError>
+/// The offset of the PE mark, from the MS-DOS header.
+pub(crate) fn pe_mark(bytes: &[u8]) -> Result<u32, PeError>
     ensures { MatchResult result
-        (λ offset. HasDosHeader bytes.now × (offset ≡ signature_offset bytes.now))
+        (λ offset. HasDosHeader bytes.now × (offset ≡ mark_offset bytes.now))
         (LacksDosHeader bytes.now) }
 {
-    let Some(offset) = u32_at(bytes, SIGNATURE_OFFSET) else {
+    let Some(offset) = u32_at(bytes, MARK_OFFSET) else {
         return Err(PeError::NotMz);
     };
     match u16_at(bytes, 0) {
-        Some(DOS_SIGNATURE) => Ok(offset),
+        Some(DOS_MARK) => Ok(offset),
         _ => Err(PeError::NotMz),
     }
 }

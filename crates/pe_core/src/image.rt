@@ -5,11 +5,16 @@ ghost use Rattle.der_core.specs.Rules.{IsFirstBroken};
 ghost use Rattle.sig_core.specs.Digest.{digest_of, digest_size};
 ghost use Rattle.pe_core.specs.Bound.{bound_octets, head_of, middle_of, rest_of, table_of};
 ghost use Rattle.pe_core.specs.Fields.{checksum_offset, entry_offset, table_offset};
+ghost use Rattle.pe_core.specs.Entries.{HasTable, IsTable};
 ghost use Rattle.pe_core.specs.Image.{IsSignedImage, image_rules};
+ghost use Rattle.pe_core.specs.Layout.{IsWhole, layout_rules};
 
+use crate::entries::Entries;
 use crate::error::PeError;
 use crate::hashing::digest_of_parts;
-use crate::header::{ENTRY_LENGTH, OptionalHeader, TableEntry, signature_of};
+use crate::header::{ENTRY_LENGTH, OptionalHeader, TableEntry, pe_mark};
+use crate::layout::SectionTable;
+use crate::layout_error::{BadTable, LayoutError};
 use sig_core::HashAlgorithm;
 use std::alloc::{AllocError, Global};
 
@@ -35,7 +40,7 @@ pub struct PeImage<'a> {
 
 impl<'a> PeImage<'a> {
     /// Finds the parts of a program file. Fails with the first of these that doesn't hold: it has
-    /// an MS-DOS header; a PE signature; the magic number of PE32 or PE32+; a data directory for
+    /// an MS-DOS header; the PE mark; the magic number of PE32 or PE32+; a data directory for
     /// the certificate table; such a table; and this table is the end of the file. It doesn't
     /// allocate.
     pub fn parse(bytes: &'a [u8]) -> Result<PeImage<'a>, PeError>
@@ -43,7 +48,7 @@ impl<'a> PeImage<'a> {
             (λ image. (image.file.now ≡ bytes.now) × IsSignedImage bytes.now)
             (IsFirstBroken (image_rules bytes.now)) }
     {
-        let header = OptionalHeader::of(bytes, signature_of(bytes)?)?;
+        let header = OptionalHeader::of(bytes, pe_mark(bytes)?)?;
         let format = header.format()?;
         let entry = TableEntry::of(bytes, header, format)?;
         entry.expect_last(bytes)?;
@@ -53,6 +58,19 @@ impl<'a> PeImage<'a> {
             entry: entry.offset,
             table: entry.address as usize,
         })
+    }
+
+    /// Checks that the image is whole, so that a loader which copies its headers and the data of
+    /// its sections copies nothing but what is digested, the checksum and the certificate table's
+    /// entry aside. Fails with the first of these that doesn't hold: the section table is within
+    /// the headers, by SizeOfHeaders, and these are ahead of the certificate table; the data of
+    /// each section that has any is behind the headers and ahead of the certificate table. It
+    /// doesn't allocate.
+    pub fn expect_whole(&self) -> Result<(), LayoutError>
+        ensures { MatchResult result (λ _. IsWhole self.now.file.now)
+            (IsFirstBroken (layout_rules self.now.file.now)) }
+    {
+        SectionTable::of(self.file, self.table)?.expect_inside()
     }
 
     /// The octets before the checksum.
@@ -81,6 +99,16 @@ impl<'a> PeImage<'a> {
         ensures { result.now ≡ table_of self.now.file.now }
     {
         &self.file[self.table..]
+    }
+
+    /// The entries of the certificate table, one after another, where it is a list of entries. Each
+    /// begins at a multiple of eight octets from the beginning of the table. It doesn't allocate.
+    pub fn entries(&self) -> Result<Entries<'a>, BadTable>
+        ensures { MatchResult result
+            (λ entries. IsTable (table_of self.now.file.now) entries.are.0)
+            (λ _. HasTable (table_of self.now.file.now) → ⊥) }
+    {
+        Entries::of(self.table())
     }
 
     /// The digest of all octets but those of the checksum, the certificate table's entry and the

@@ -43,6 +43,7 @@ pub nothing_asked : (own : Bool) (b : CertificateBuilder) (e : CertError) → ow
 nothing_asked true b e is first = first
 nothing_asked false b e is first = let no : false ≡ true = is in absurd cc
 
-pub asked_of_other : (own : Bool) (b : CertificateBuilder) (e : CertError) → own ≡ false → IsFirstUntaken (subject_arguments own b) e → IsFirstUntaken (subject_arguments false b) e
+pub asked_of_other : (own : Bool) (b : CertificateBuilder) (e : CertError) → own ≡ false → IsFirstUntaken (subject_arguments own b) e
+    → IsFirstUntaken (subject_arguments false b) e
 asked_of_other true b e is first = absurd first
 asked_of_other false b e is first = first

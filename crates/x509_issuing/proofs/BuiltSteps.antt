@@ -1,5 +1,6 @@
 -- A built certificate is the next one of a history, where its builder takes the step.
-use Rattle.std.proofs.Common.{◌≡◌, ◌≢◌, ◌↔◌, ℕ, Bool, true, false, List, [], ◌∷◌, ◌++◌, Option, Some, None, Result, Ok, Err, IfOk, MatchResult, refl, sym, ap, subst, ◌∙◌}
+use Rattle.std.proofs.Common.{◌≡◌, ◌≢◌, ◌↔◌, ℕ, Bool, true, false, List, [], ◌∷◌, ◌++◌, Option, Some}
+use Rattle.std.proofs.Common.{None, Result, Ok, Err, IfOk, MatchResult, refl, sym, ap, subst, ◌∙◌}
 use Rattle.std.proofs.Math.Logic.{∥∥₁_elim}
 use Rattle.std.specs.Coded.{Coded-set}
 use Rattle.asn1_types.specs.declared.generalized_time.GeneralizedTime.{GeneralizedTime}
@@ -55,14 +56,18 @@ same_constraints a b e = cc
 fields_of : (cert : KeptCertificate) → certificate_of cert.elements ≡ certificate cert.certificate → AreCertificateFields cert.elements cert.certificate
 fields_of cert written =
     let inner : AreDer (inner_certificate cert.certificate) =
-    ∥∥₁_elim cert.spelled (AreDer-prop (inner_certificate cert.certificate)) (λ are. certificates.bounded (certificate_of cert.elements) cert.certificate (spelled_by cert.elements cert.certificate are)) in
+    ∥∥₁_elim cert.spelled (AreDer-prop (inner_certificate cert.certificate))
+    (λ are. certificates.bounded (certificate_of cert.elements) cert.certificate (spelled_by cert.elements cert.certificate are)) in
     let spelled : IsCertificate (certificate cert.certificate) cert.certificate = certificates.spelled cert.certificate inner in
-    subst (λ (f : CertificateElements). AreCertificateFields f cert.certificate) (parts_once spelled.elements cert.elements (sym spelled.is ∙ sym written)) spelled.spelled
+    subst (λ (f : CertificateElements). AreCertificateFields f cert.certificate) (parts_once spelled.elements cert.elements (sym spelled.is ∙ sym written))
+    spelled.spelled
 
 subject_is : (kept : KeptCertificate) → kept.elements.tbs.subject ≡ name kept.certificate.tbs_certificate.subject
-subject_is kept = ∥∥₁_elim kept.spelled (Coded-set coded_element kept.elements.tbs.subject (name kept.certificate.tbs_certificate.subject)) (λ are. are.tbs.subject)
+subject_is kept =
+    ∥∥₁_elim kept.spelled (Coded-set coded_element kept.elements.tbs.subject (name kept.certificate.tbs_certificate.subject)) (λ are. are.tbs.subject)
 
-module _ (judge : Judge) (signs : Signs) (pair : Pair) (b : CertificateBuilder) (word : ℕ) (cert : KeptCertificate) (is : IsBuilt (arithmetic judge signs pair) b word cert) where
+module _ (judge : Judge) (signs : Signs) (pair : Pair) (b : CertificateBuilder) (word : ℕ) (cert : KeptCertificate)
+    (is : IsBuilt (arithmetic judge signs pair) b word cert) where
   fields : AreCertificateFields cert.elements cert.certificate
   fields = fields_of cert is.made.written
 
@@ -78,7 +83,8 @@ module _ (judge : Judge) (signs : Signs) (pair : Pair) (b : CertificateBuilder) 
   constrained : HasFirst CE_BASIC_CONSTRAINTS.now Extensions (constraints_of b)
   constrained =
       let by = is.made.made.tbs.by in
-      built_extensions (λ (es : List Extension). HasFirst CE_BASIC_CONSTRAINTS.now es (constraints_of b)) (built_constrained b is.issuer _ _ by.extensions by.built)
+      built_extensions (λ (es : List Extension). HasFirst CE_BASIC_CONSTRAINTS.now es (constraints_of b))
+      (built_constrained b is.issuer _ _ by.extensions by.built)
 
   abbrev own : List ℕ
   own = is.made.made.tbs.own
@@ -86,12 +92,14 @@ module _ (judge : Judge) (signs : Signs) (pair : Pair) (b : CertificateBuilder) 
   has_own : HasSubjectKey cert.elements own
   has_own =
       let by = is.made.made.tbs.by in
-      (said.subject_key own).1 (built_extensions (λ (es : List Extension). HasFirst CE_SUBJECT_KEY_IDENTIFIER.now es (views.SubjectKeyIdentifier own)) (built_key b is.issuer _ _ by.extensions by.built))
+      (said.subject_key own).1 (built_extensions (λ (es : List Extension). HasFirst CE_SUBJECT_KEY_IDENTIFIER.now es (views.SubjectKeyIdentifier own))
+      (built_key b is.issuer _ _ by.extensions by.built))
 
   names_authority : NamesKey Extensions (authority_of is.issuer.self_signed b.authority_key_identifier own)
   names_authority =
       let by = is.made.made.tbs.by in
-      built_extensions (λ (es : List Extension). NamesKey es (authority_of is.issuer.self_signed b.authority_key_identifier own)) (built_authority b is.issuer _ _ by.extensions by.built)
+      built_extensions (λ (es : List Extension). NamesKey es (authority_of is.issuer.self_signed b.authority_key_identifier own))
+      (built_authority b is.issuer _ _ by.extensions by.built)
 
   has_flag : HasCa cert.elements b.ca
   has_flag = (said.flag b.ca).1 (record { value = _; first = constrained; flagged = refl })
@@ -123,14 +131,16 @@ module _ (judge : Judge) (signs : Signs) (pair : Pair) (b : CertificateBuilder) 
   issuer_is = fields.tbs.issuer ∙ ap name is.made.made.tbs.by.issued_by.named
 
   -- of a self-signed certificate the subject is the issuer
-  own_subject : (self_signed : Bool) → self_signed ≡ true → (authority : Option (List ℕ)) (given : Option SubjectInfos) (subject : NameSets) (key : SubjectPublicKeyInfo) → IsSubjectBy judge self_signed is.issuer authority given subject key → subject ≡ sets_of is.issuer.name
+  own_subject : (self_signed : Bool) → self_signed ≡ true → (authority : Option (List ℕ)) (given : Option SubjectInfos) (subject : NameSets)
+      (key : SubjectPublicKeyInfo) → IsSubjectBy judge self_signed is.issuer authority given subject key → subject ≡ sets_of is.issuer.name
   own_subject true e authority given subject key by = by.0
   own_subject false e authority given subject key by = absurd cc
 
   self_issued : is.issuer.self_signed ≡ true → IsSelfIssued cert.elements
   self_issued own_name =
       let tbs = is.made.made.tbs in
-      issuer_is ∙ ap name (sym (own_subject is.issuer.self_signed own_name b.authority_key_identifier b.subject_infos cert.certificate.tbs_certificate.subject cert.certificate.tbs_certificate.subject_public_key_info tbs.issued_to.subject)) ∙ sym fields.tbs.subject
+      issuer_is ∙ ap name (sym (own_subject is.issuer.self_signed own_name b.authority_key_identifier b.subject_infos cert.certificate.tbs_certificate.subject
+      cert.certificate.tbs_certificate.subject_public_key_info tbs.issued_to.subject)) ∙ sym fields.tbs.subject
 
   module _ (parent : KeptCertificate) (by : IsIssuerCert pair b is.issuer parent) where
     agreed : AgreeByName parent.elements cert.elements
@@ -179,7 +189,8 @@ module _ (judge : Judge) (signs : Signs) (pair : Pair) (b : CertificateBuilder) 
           (found.0, found.1, certified found.0 found.2);
     }
 
-pub next_of : (judge : Judge) (signs : Signs) (pair : Pair) (b : CertificateBuilder) (word : ℕ) (r : Result KeptCertificate CertError) (Refused : CertError → Type 0)
+pub next_of : (judge : Judge) (signs : Signs) (pair : Pair) (b : CertificateBuilder) (word : ℕ) (r : Result KeptCertificate CertError)
+    (Refused : CertError → Type 0)
     → MatchResult r (IsBuilt (arithmetic judge signs pair) b word) Refused
     → IfOk r (λ cert. (certificates : List KeptCertificate) (step : IssuingStep) → TakesStep pair b certificates step → IsNext judge certificates step cert)
 next_of judge signs pair b word (Ok cert) Refused is = is_next judge signs pair b word cert is

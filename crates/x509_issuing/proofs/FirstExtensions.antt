@@ -10,7 +10,8 @@ none_then : (oid : List ℕ) (before after : List Extension) (e : Extension) →
 none_then oid [] after e none = none.0
 none_then oid (x ∷ before) after e none = none_then oid before after e none.1
 
-same_first : (oid : List ℕ) (before before' after after' : List Extension) (e e' : Extension) → before ++ e ∷ after ≡ before' ++ e' ∷ after' → NoneHas oid before → NoneHas oid before'
+same_first : (oid : List ℕ) (before before' after after' : List Extension) (e e' : Extension) → before ++ e ∷ after ≡ before' ++ e' ∷ after'
+    → NoneHas oid before → NoneHas oid before'
     → identifier_contents e.extn_id ≡ oid → identifier_contents e'.extn_id ≡ oid → e ≡ e'
 same_first oid [] [] after after' e e' same none none' named named' = cc
 same_first oid [] (x ∷ before') after after' e e' same none none' named named' =
@@ -25,7 +26,8 @@ same_first oid (x ∷ before) (y ∷ before') after after' e e' same none none' 
 
 pub first_once : (oid : List ℕ) (es : List Extension) (v w : ExtensionView) → HasFirst oid es v → HasFirst oid es w → v ≡ w
 first_once oid es v w p q =
-    let same = same_first oid p.first.before q.first.before p.first.after q.first.after p.extension q.extension (sym p.first.are ∙ q.first.are) p.first.first q.first.first p.first.named q.first.named in
+    let same = same_first oid p.first.before q.first.before p.first.after q.first.after p.extension q.extension (sym p.first.are ∙ q.first.are)
+    p.first.first q.first.first p.first.named q.first.named in
     sym p.valued ∙ ap (λ (e : Extension). e.extn_value) same ∙ q.valued
 
 -- if none has the OID, there is no first one

@@ -20,12 +20,16 @@ use Rattle.x509_issuing.specs.declared.builder.CertificateBuilder.{CertificateBu
 use Rattle.x509_issuing.proofs.FirstExtensions.{first_once, none_is_first}
 
 pub issued_under : (cert : KeptCertificate) (key : Bor PrivateKey) (before after : CertificateBuilder) (authority : Option (List ℕ)) (name : DirectoryName)
-    → IsIdentifiedBy (extensions_in cert.certificate.tbs_certificate.extensions) before.authority_key_identifier authority → name.name ≡ cert.certificate.tbs_certificate.subject
-    → after ≡ record before { authority_key_identifier = authority; issuer_infos = Some (record { name = name; key = key; self_signed = false }) } → IsIssuedUnder cert key before after
+    → IsIdentifiedBy (extensions_in cert.certificate.tbs_certificate.extensions) before.authority_key_identifier authority
+    → name.name ≡ cert.certificate.tbs_certificate.subject
+    → after ≡ record before { authority_key_identifier = authority; issuer_infos = Some (record { name = name; key = key; self_signed = false }) }
+    → IsIssuedUnder cert key before after
 issued_under cert key before after authority name identified named is = record {
   authority = authority;
   identified = identified;
-  is = is ∙ ap (λ (n : List (List AttributeTypeAndValue)). record before { authority_key_identifier = authority; issuer_infos = Some (record { name = record { name = n }; key = key; self_signed = false }) }) named;
+  is = is ∙ ap (λ (n : List (List AttributeTypeAndValue)).
+      record before { authority_key_identifier = authority; issuer_infos = Some (record { name = record { name = n }; key = key; self_signed = false }) })
+      named;
 }
 
 -- ---- the authority key identifier, by the elements of the certificate
@@ -33,16 +37,20 @@ issued_under cert key before after authority name identified named is = record {
 same_identifier : (a b : List ℕ) → views.SubjectKeyIdentifier a ≡ views.SubjectKeyIdentifier b → a ≡ b
 same_identifier a b e = cc
 
-identified_by : (es : List Extension) (before after : Option (List ℕ)) (key : List ℕ) → HasFirst CE_SUBJECT_KEY_IDENTIFIER.now es (views.SubjectKeyIdentifier key) → IsIdentifiedBy es before after → after ≡ Some key
+identified_by : (es : List Extension) (before after : Option (List ℕ)) (key : List ℕ)
+    → HasFirst CE_SUBJECT_KEY_IDENTIFIER.now es (views.SubjectKeyIdentifier key) → IsIdentifiedBy es before after → after ≡ Some key
 identified_by es before after key first (inl (none, same)) = absurd (none_is_first CE_SUBJECT_KEY_IDENTIFIER.now es (views.SubjectKeyIdentifier key) none first)
-identified_by es before after key first (inr (own, other, is)) = is ∙ ap Some (same_identifier own key (first_once CE_SUBJECT_KEY_IDENTIFIER.now es _ _ other first))
+identified_by es before after key first (inr (own, other, is)) =
+    is ∙ ap Some (same_identifier own key (first_once CE_SUBJECT_KEY_IDENTIFIER.now es _ _ other first))
 
 one_option : (a b : Option (List ℕ)) → IsProp (a ≡ b)
 one_option a b = Coded-set (coded_option octets_code) a b
 
-pub authority_is : (cert : KeptCertificate) (signer : Bor PrivateKey) (before after : CertificateBuilder) → IsIssuedUnder cert signer before after → (key : List ℕ) → HasSubjectKey cert.elements key → after.authority_key_identifier ≡ Some key
+pub authority_is : (cert : KeptCertificate) (signer : Bor PrivateKey) (before after : CertificateBuilder) → IsIssuedUnder cert signer before after
+    → (key : List ℕ) → HasSubjectKey cert.elements key → after.authority_key_identifier ≡ Some key
 authority_is cert signer before after under key has =
     let es = extensions_in cert.certificate.tbs_certificate.extensions in
     ap (λ (b : CertificateBuilder). b.authority_key_identifier) under.is
     ∙ ∥∥₁_elim cert.spelled (one_option under.authority (Some key))
-    (λ are. identified_by es before.authority_key_identifier under.authority key (((say_the_same cert.elements cert.certificate are).subject_key key).0 has) under.identified)
+    (λ are. identified_by es before.authority_key_identifier under.authority key (((say_the_same cert.elements cert.certificate are).subject_key key).0 has)
+    under.identified)

@@ -33,48 +33,64 @@ element_is cert c same = formed_encoding_once (certificate_of cert.elements) (ce
 
 module _ (judge : Judge) (signs : Signs) (pair : Pair) (algorithm : SignatureAlgorithm) (key : PrivateKey) where
   -- a signed certificate is made, or it can't be written
-  pub made_or_not : (tbs : TbsCertificate) (c : Certificate) (r : Result KeptCertificate CertError) → c.tbs_certificate ≡ tbs → c.signature_algorithm ≡ tbs.signature → c.signature_value.unused ≡ 0
+  pub made_or_not : (tbs : TbsCertificate) (c : Certificate) (r : Result KeptCertificate CertError) → c.tbs_certificate ≡ tbs
+      → c.signature_algorithm ≡ tbs.signature → c.signature_value.unused ≡ 0
       → IsDer (tbs_certificate tbs) → AreDer (inner_tbs tbs) → IsTbsSigned signs algorithm key tbs
       → ((public : SubjectPublicKeyInfo) → IsKeyPair pair key public → Accepts judge algorithm public (message_of tbs) c.signature_value.payload)
-      → MatchResult r (λ cert. (kept_octets cert ≡ written_octets c) × (cert.certificate ≡ c)) (IsUnwrittenCert elements.Certificate (RefusesInner (written_elements c)))
-      → MatchResult r (IsMade (arithmetic judge signs pair) algorithm key (λ t. t ≡ tbs)) (RefusesBySteps errors.Memory (signing_steps (arithmetic judge signs pair) algorithm key (λ t. t ≡ tbs)))
+      → MatchResult r (λ cert. (kept_octets cert ≡ written_octets c) × (cert.certificate ≡ c))
+      (IsUnwrittenCert elements.Certificate (RefusesInner (written_elements c)))
+      → MatchResult r (IsMade (arithmetic judge signs pair) algorithm key (λ t. t ≡ tbs))
+      (RefusesBySteps errors.Memory (signing_steps (arithmetic judge signs pair) algorithm key (λ t. t ≡ tbs)))
   made_or_not tbs c r is beside unused der inner signed accepted made =
       let whole : IsSignedCertificate judge pair algorithm key (λ t. t ≡ tbs) c = record {
         tbs = is;
         beside = beside ∙ ap (λ (t : TbsCertificate). t.signature) (sym is);
         unused = unused;
-        accepted = λ public paired. subst (λ (t : TbsCertificate). Accepts judge algorithm public (message_of t) c.signature_value.payload) (sym is) (accepted public paired);
+        accepted = λ public paired. subst (λ (t : TbsCertificate). Accepts judge algorithm public (message_of t) c.signature_value.payload) (sym is)
+            (accepted public paired);
       } in
       by r whole made
     where
       by : (r : Result KeptCertificate CertError) → IsSignedCertificate judge pair algorithm key (λ t. t ≡ tbs) c
-          → MatchResult r (λ cert. (kept_octets cert ≡ written_octets c) × (cert.certificate ≡ c)) (IsUnwrittenCert elements.Certificate (RefusesInner (written_elements c)))
-          → MatchResult r (IsMade (arithmetic judge signs pair) algorithm key (λ t. t ≡ tbs)) (RefusesBySteps errors.Memory (signing_steps (arithmetic judge signs pair) algorithm key (λ t. t ≡ tbs)))
+          → MatchResult r (λ cert. (kept_octets cert ≡ written_octets c) × (cert.certificate ≡ c))
+          (IsUnwrittenCert elements.Certificate (RefusesInner (written_elements c)))
+          → MatchResult r (IsMade (arithmetic judge signs pair) algorithm key (λ t. t ≡ tbs))
+          (RefusesBySteps errors.Memory (signing_steps (arithmetic judge signs pair) algorithm key (λ t. t ≡ tbs)))
       by (Ok cert) whole (octets, value) = record {
-        signed = subst (λ (x : Certificate). IsTbsSigned signs algorithm key x.tbs_certificate) (sym value) (subst (IsTbsSigned signs algorithm key) (sym is) signed);
+        signed = subst (λ (x : Certificate). IsTbsSigned signs algorithm key x.tbs_certificate) (sym value)
+            (subst (IsTbsSigned signs algorithm key) (sym is) signed);
         made = subst (IsSignedCertificate judge pair algorithm key (λ t. t ≡ tbs)) (sym value) whole;
         written = element_is cert c octets ∙ ap certificate (sym value);
       }
       by (Err e) whole refused = inl (inr ((tbs, refl, der, inner), inr ((tbs, refl, signed), inl (c, whole, refused))))
 
   -- what is known about a TBSCertificate carries over to the steps
-  signed_as : (A B : TbsCertificate → Type 0) (c : Certificate) → ((t : TbsCertificate) → A t → B t) → IsSignedCertificate judge pair algorithm key A c → IsSignedCertificate judge pair algorithm key B c
+  signed_as : (A B : TbsCertificate → Type 0) (c : Certificate) → ((t : TbsCertificate) → A t → B t) → IsSignedCertificate judge pair algorithm key A c
+      → IsSignedCertificate judge pair algorithm key B c
   signed_as A B c f s = record { tbs = f c.tbs_certificate s.tbs; beside = s.beside; unused = s.unused; accepted = s.accepted }
 
-  made_as : (A B : TbsCertificate → Type 0) (cert : KeptCertificate) → ((t : TbsCertificate) → A t → B t) → IsMade (arithmetic judge signs pair) algorithm key A cert → IsMade (arithmetic judge signs pair) algorithm key B cert
+  made_as : (A B : TbsCertificate → Type 0) (cert : KeptCertificate) → ((t : TbsCertificate) → A t → B t)
+      → IsMade (arithmetic judge signs pair) algorithm key A cert → IsMade (arithmetic judge signs pair) algorithm key B cert
   made_as A B cert f m = record { signed = m.signed; made = signed_as A B cert.certificate f m.made; written = m.written }
 
   untaken_as : (A B : TbsCertificate → Type 0) (e : CertError) → ((t : TbsCertificate) → A t → B t)
-      → IsFirstUntaken (signing_steps (arithmetic judge signs pair) algorithm key A) e → IsFirstUntaken (signing_steps (arithmetic judge signs pair) algorithm key B) e
+      → IsFirstUntaken (signing_steps (arithmetic judge signs pair) algorithm key A) e
+      → IsFirstUntaken (signing_steps (arithmetic judge signs pair) algorithm key B) e
   untaken_as A B e f (inl octets) = inl (octets.0, f octets.0 octets.1, octets.2)
-  untaken_as A B e f (inr (octets, inl signature)) = inr ((octets.0, f octets.0 octets.1, octets.2, octets.3), inl (signature.0, f signature.0 signature.1, signature.2))
+  untaken_as A B e f (inr (octets, inl signature)) =
+      inr ((octets.0, f octets.0 octets.1, octets.2, octets.3), inl (signature.0, f signature.0 signature.1, signature.2))
   untaken_as A B e f (inr (octets, inr (signature, inl whole))) =
-      inr ((octets.0, f octets.0 octets.1, octets.2, octets.3), inr ((signature.0, f signature.0 signature.1, signature.2), inl (whole.0, signed_as A B whole.0 f whole.1, whole.2)))
+      inr (
+        (octets.0, f octets.0 octets.1, octets.2, octets.3),
+        inr ((signature.0, f signature.0 signature.1, signature.2), inl (whole.0, signed_as A B whole.0 f whole.1, whole.2)),
+      )
   untaken_as A B e f (inr (octets, inr (signature, inr (whole, none)))) = absurd none
 
   pub made_or_refused : (A B : TbsCertificate → Type 0) (r : Result KeptCertificate CertError) → ((t : TbsCertificate) → A t → B t)
-      → MatchResult r (IsMade (arithmetic judge signs pair) algorithm key A) (RefusesBySteps errors.Memory (signing_steps (arithmetic judge signs pair) algorithm key A))
-      → MatchResult r (IsMade (arithmetic judge signs pair) algorithm key B) (RefusesBySteps errors.Memory (signing_steps (arithmetic judge signs pair) algorithm key B))
+      → MatchResult r (IsMade (arithmetic judge signs pair) algorithm key A)
+      (RefusesBySteps errors.Memory (signing_steps (arithmetic judge signs pair) algorithm key A))
+      → MatchResult r (IsMade (arithmetic judge signs pair) algorithm key B)
+      (RefusesBySteps errors.Memory (signing_steps (arithmetic judge signs pair) algorithm key B))
   made_or_refused A B (Ok cert) f made = made_as A B cert f made
   made_or_refused A B (Err e) f (inl first) = inl (untaken_as A B e f first)
   made_or_refused A B (Err e) f (inr memory) = inr memory

@@ -26,13 +26,18 @@ use Rattle.x509_types.specs.declared.attribute.Attribute.{Attribute}
 use Rattle.x509_issuing.specs.declared.request_info.CertificationRequestInfo.{CertificationRequestInfo}
 use Rattle.x509_issuing.specs.declared.request.CertificationRequest.{CertificationRequest}
 
-pub by_request_fields : (element subject key : DerElement) (attributes : Option DerElement) (info : CertificationRequestInfo) → element ≡ request_info_of subject key attributes → IsRequestInfo element info
+pub by_request_fields : (element subject key : DerElement) (attributes : Option DerElement) (info : CertificationRequestInfo)
+    → element ≡ request_info_of subject key attributes → IsRequestInfo element info
     → IsName subject info.subject × IsPublicKeyInfo key info.subject_public_key_info × SpellsOption AreAttributes attributes info.attributes
 by_request_fields element subject key attributes info is spelled =
-    let same = request_fields (name info.subject) spelled.key subject key spelled.attributes attributes (sym spelled.is ∙ is) in
-    (sym same.0, subst (λ (e : DerElement). IsPublicKeyInfo e info.subject_public_key_info) same.1 spelled.keyed, subst (λ (o : Option DerElement). SpellsOption AreAttributes o info.attributes) same.2 spelled.spelled)
+    let same = request_fields (name info.subject) spelled.key subject key spelled.attributes attributes (sym spelled.is ∙ is) in (
+      sym same.0,
+      subst (λ (e : DerElement). IsPublicKeyInfo e info.subject_public_key_info) same.1 spelled.keyed,
+      subst (λ (o : Option DerElement). SpellsOption AreAttributes o info.attributes) same.2 spelled.spelled,
+    )
 
-pub of_request_fields : (element subject key : DerElement) (attributes : Option DerElement) → element ≡ request_info_of subject key attributes → Fits IsName subject → Fits IsPublicKeyInfo key → Fits (SpellsOption AreAttributes) attributes → Fits IsRequestInfo element
+pub of_request_fields : (element subject key : DerElement) (attributes : Option DerElement) → element ≡ request_info_of subject key attributes
+    → Fits IsName subject → Fits IsPublicKeyInfo key → Fits (SpellsOption AreAttributes) attributes → Fits IsRequestInfo element
 of_request_fields element subject key attributes is named keyed listed = (
   record { subject = named.0; subject_public_key_info = keyed.0; attributes = listed.0 },
   record {
@@ -50,7 +55,8 @@ by_parts element info algorithm value r is spelled =
     let same = same_three spelled.info (algorithm_identifier r.signature_algorithm) (bit_string r.signature) info algorithm value (sym spelled.is ∙ is) in
     (subst (λ (e : DerElement). IsRequestInfo e r.certification_request_info) same.0 spelled.spelled, sym same.1, sym same.2)
 
-pub of_parts : (element info algorithm value : DerElement) → element ≡ sequence (info ∷ algorithm ∷ value ∷ []) → Fits IsRequestInfo info → (a : AlgorithmIdentifier) × (algorithm ≡ algorithm_identifier a)
+pub of_parts : (element info algorithm value : DerElement) → element ≡ sequence (info ∷ algorithm ∷ value ∷ []) → Fits IsRequestInfo info
+    → (a : AlgorithmIdentifier) × (algorithm ≡ algorithm_identifier a)
     → (b : BitString) × (value ≡ bit_string b) → Fits IsRequest element
 of_parts element info algorithm value is fit a b = (
   record { certification_request_info = fit.0; signature_algorithm = a.0; signature = b.0 },

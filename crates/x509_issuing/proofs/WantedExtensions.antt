@@ -1,12 +1,14 @@
 -- Lists of wanted extensions; those of a builder have different OIDs, also together with those that
 -- are added.
-use Rattle.std.proofs.Common.{◌≡◌, ◌≢◌, ℕ, List, [], ◌∷◌, ◌++◌, Bool, true, false, ◌&&◌, ◌||◌, not, Option, Some, None, refl, sym, ap, subst, ◌∙◌, append_assoc, append-nil}
+use Rattle.std.proofs.Common.{◌≡◌, ◌≢◌, ℕ, List, [], ◌∷◌, ◌++◌, Bool, true, false, ◌&&◌, ◌||◌, not}
+use Rattle.std.proofs.Common.{Option, Some, None, refl, sym, ap, subst, ◌∙◌, append_assoc, append-nil}
 use Rattle.std.specs.Prelude.{if◌then◌else◌, option_to_list}
 use Rattle.std.specs.Str.{bytes_eq}
 use Rattle.std.proofs.lemmas.Bool.{and_parts}
 use Rattle.std.proofs.lemmas.Slice.Eq.{bytes_eq-Decides}
 use Rattle.asn1_types.specs.Values.{identifier_contents}
-use Rattle.asn1_types.specs.declared.oids.TheConstants.{CE_SUBJECT_KEY_IDENTIFIER, CE_KEY_USAGE, CE_SUBJECT_ALT_NAME, CE_ISSUER_ALT_NAME, CE_BASIC_CONSTRAINTS, CE_AUTHORITY_KEY_IDENTIFIER, CE_EXT_KEY_USAGE}
+use Rattle.asn1_types.specs.declared.oids.TheConstants.{CE_SUBJECT_KEY_IDENTIFIER, CE_KEY_USAGE, CE_SUBJECT_ALT_NAME, CE_ISSUER_ALT_NAME}
+use Rattle.asn1_types.specs.declared.oids.TheConstants.{CE_BASIC_CONSTRAINTS, CE_AUTHORITY_KEY_IDENTIFIER, CE_EXT_KEY_USAGE}
 use Rattle.extension_types.specs.declared.extended_key_usage.ExtendedKeyUsage.{ExtendedKeyUsage}
 use Rattle.extension_types.specs.declared.key_usage.KeyUsage.{KeyUsage}
 use Rattle.extension_types.specs.AuthorityKeyIdentifier.{key_of_identifier}
@@ -20,7 +22,8 @@ use Rattle.x509_core.specs.FirstValue.{HasFirst}
 use Rattle.x509_core.specs.SaidValues.{NamesKey}
 use Rattle.x509_core.proofs.DistinctExtensions.{distinct_with, first_of_distinct}
 use Rattle.x509_issuing.specs.Inherited.{has_one, with_one, with_others}
-use Rattle.x509_issuing.specs.MadeExtensions.{WantedExtension, IsWantedExtension, AreWanted, AreBuilt, HasUses, IsConstraints, constraints_of, inherited, where_given, wanted, wanted_keys, wanted_names, wanted_uses}
+use Rattle.x509_issuing.specs.MadeExtensions.{WantedExtension, IsWantedExtension, AreWanted, AreBuilt, HasUses, IsConstraints}
+use Rattle.x509_issuing.specs.MadeExtensions.{constraints_of, inherited, where_given, wanted, wanted_keys, wanted_names, wanted_uses}
 use Rattle.x509_issuing.specs.declared.builder.CertificateBuilder.{CertificateBuilder}
 use Rattle.x509_issuing.specs.declared.builder.IssuerInfos.{IssuerInfos}
 
@@ -69,13 +72,16 @@ distinct_of (w ∷ ws) (e ∷ es) are test =
     (subst (λ (id : List ℕ). NoneHas id es) (sym are.0.named) (none_of w.oid ws es are.1 parts.0), distinct_of ws es are.1 parts.1)
 
 -- the extensions that a builder wants
-abbrev all_wanted : Bool → ExtensionView → Option KeyUsage → Option ExtendedKeyUsage → Option (List RawGeneralName) → Option (List RawGeneralName) → (own authority : List ℕ) → List WantedExtension
+abbrev all_wanted : Bool → ExtensionView → Option KeyUsage → Option ExtendedKeyUsage → Option (List RawGeneralName) → Option (List RawGeneralName)
+    → (own authority : List ℕ) → List WantedExtension
 all_wanted critical constraints uses purposes subject issuer own authority =
     (record { oid = CE_BASIC_CONSTRAINTS.now; critical = critical; value = constraints }
     ∷ (where_given CE_KEY_USAGE.now true views.KeyUsage uses ++ where_given CE_EXT_KEY_USAGE.now false views.ExtendedKeyUsage purposes))
-    ++ ((where_given CE_SUBJECT_ALT_NAME.now false views.SubjectAltName subject ++ where_given CE_ISSUER_ALT_NAME.now false views.IssuerAltName issuer) ++ wanted_keys own authority)
+    ++ ((where_given CE_SUBJECT_ALT_NAME.now false views.SubjectAltName subject ++ where_given CE_ISSUER_ALT_NAME.now false views.IssuerAltName issuer)
+    ++ wanted_keys own authority)
 
-all_differ : (critical : Bool) (constraints : ExtensionView) (uses : Option KeyUsage) (purposes : Option ExtendedKeyUsage) (subject issuer : Option (List RawGeneralName)) (own authority : List ℕ)
+all_differ : (critical : Bool) (constraints : ExtensionView) (uses : Option KeyUsage) (purposes : Option ExtendedKeyUsage)
+    (subject issuer : Option (List RawGeneralName)) (own authority : List ℕ)
     → differ (all_wanted critical constraints uses purposes subject issuer own authority) ≡ true
 all_differ critical constraints None None None None own authority = refl
 all_differ critical constraints None None None (Some i) own authority = refl
@@ -94,7 +100,8 @@ all_differ critical constraints (Some u) (Some p) None (Some i) own authority = 
 all_differ critical constraints (Some u) (Some p) (Some s) None own authority = refl
 all_differ critical constraints (Some u) (Some p) (Some s) (Some i) own authority = refl
 
-made_distinct : (b : CertificateBuilder) (critical : Bool) (own authority : List ℕ) (made : List Extension) → AreWanted (wanted b critical own authority) made → AreDistinct made
+made_distinct : (b : CertificateBuilder) (critical : Bool) (own authority : List ℕ) (made : List Extension) → AreWanted (wanted b critical own authority) made
+    → AreDistinct made
 made_distinct b critical own authority made are =
     distinct_of (wanted b critical own authority) made are
     (all_differ critical (constraints_of b) b.key_usage b.extended_key_usage b.subject_alt_name b.issuer_alt_name own authority)
@@ -107,7 +114,8 @@ none_has (e ∷ es) oid test =
     let parts = or_parts _ _ test in
     (differs (identifier_contents e.extn_id) oid parts.0, none_has es oid parts.1)
 
-distinct_or : (es : List Extension) (e : Extension) (t : Bool) → has_one es (identifier_contents e.extn_id) ≡ t → AreDistinct es → AreDistinct (if t then es else es ++ e ∷ [])
+distinct_or : (es : List Extension) (e : Extension) (t : Bool) → has_one es (identifier_contents e.extn_id) ≡ t → AreDistinct es
+    → AreDistinct (if t then es else es ++ e ∷ [])
 distinct_or es e true test distinct = distinct
 distinct_or es e false test distinct = distinct_with es e distinct (none_has es (identifier_contents e.extn_id) test)
 
@@ -115,10 +123,12 @@ distinct_others : (es others : List Extension) → AreDistinct es → AreDistinc
 distinct_others es [] distinct = distinct
 distinct_others es (e ∷ others) distinct = distinct_others (with_one es e) others (distinct_or es e (has_one es (identifier_contents e.extn_id)) refl distinct)
 
-pub built_distinct : (b : CertificateBuilder) (issuer : IssuerInfos) (own authority : List ℕ) (es : List Extension) → AreBuilt b issuer own authority es → AreDistinct es
+pub built_distinct : (b : CertificateBuilder) (issuer : IssuerInfos) (own authority : List ℕ) (es : List Extension) → AreBuilt b issuer own authority es
+    → AreDistinct es
 built_distinct b issuer own authority es built =
     subst AreDistinct (sym built.are)
-    (distinct_others built.made (inherited issuer.self_signed b.inherits b.subject_infos) (made_distinct b built.critical own authority built.made built.are_made))
+    (distinct_others built.made (inherited issuer.self_signed b.inherits b.subject_infos)
+    (made_distinct b built.critical own authority built.made built.are_made))
 
 -- ---- the first with each OID
 
@@ -181,7 +191,8 @@ module _ (b : CertificateBuilder) (issuer : IssuerInfos) (own authority : List �
 
 pub has_uses : (b : CertificateBuilder) (e : Extension) (usage purposes : Option Extension) (one two three : List Extension) → IsConstraints b e → one ≡ e ∷ []
     → AreWanted (where_given CE_KEY_USAGE.now true views.KeyUsage b.key_usage) (option_to_list usage) → two ≡ one ++ option_to_list usage
-    → AreWanted (where_given CE_EXT_KEY_USAGE.now false views.ExtendedKeyUsage b.extended_key_usage) (option_to_list purposes) → three ≡ two ++ option_to_list purposes → HasUses b three
+    → AreWanted (where_given CE_EXT_KEY_USAGE.now false views.ExtendedKeyUsage b.extended_key_usage) (option_to_list purposes)
+    → three ≡ two ++ option_to_list purposes → HasUses b three
 has_uses b e usage purposes one two three is first used second purposed third =
     let all : three ≡ ((e ∷ []) ++ option_to_list usage) ++ option_to_list purposes =
     third ∙ ap (λ (x : List Extension). x ++ option_to_list purposes) (second ∙ ap (λ (x : List Extension). x ++ option_to_list usage) first) in
@@ -191,7 +202,8 @@ has_uses b e usage purposes one two three is first used second purposed third =
       are = (record { named = is.named; flagged = refl; valued = is.valued }, wanted_both _ _ (option_to_list usage) (option_to_list purposes) used purposed);
     })
 
-pub all_built : (b : CertificateBuilder) (issuer : IssuerInfos) (own lent authority : List ℕ) (one two three all names keys others : List Extension) → HasUses b one
+pub all_built : (b : CertificateBuilder) (issuer : IssuerInfos) (own lent authority : List ℕ) (one two three all names keys others : List Extension)
+    → HasUses b one
     → AreWanted (wanted_names b) names → two ≡ one ++ names → AreWanted (wanted_keys own lent) keys → three ≡ two ++ keys → lent ≡ authority
     → others ≡ inherited issuer.self_signed b.inherits b.subject_infos → all ≡ with_others three others → AreBuilt b issuer own authority all
 all_built b issuer own lent authority one two three all names keys others uses named second keyed third same inherit last = record {
@@ -201,5 +213,6 @@ all_built b issuer own lent authority one two three all names keys others uses n
   are_made = wanted_both (wanted_uses b uses.critical) (wanted_names b ++ wanted_keys own authority) one (names ++ keys) uses.are
       (wanted_both (wanted_names b) (wanted_keys own authority) names keys named (subst (λ (a : List ℕ). AreWanted (wanted_keys own a) keys) same keyed));
   are = last ∙ ap (with_others three) inherit
-      ∙ ap (λ (es : List Extension). with_others es (inherited issuer.self_signed b.inherits b.subject_infos)) (third ∙ ap (λ (x : List Extension). x ++ keys) second ∙ append_assoc one names keys);
+      ∙ ap (λ (es : List Extension). with_others es (inherited issuer.self_signed b.inherits b.subject_infos))
+      (third ∙ ap (λ (x : List Extension). x ++ keys) second ∙ append_assoc one names keys);
 }

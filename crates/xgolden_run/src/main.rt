@@ -6,7 +6,7 @@
 //! xgolden_run time register FILE TIMES
 //! ```
 //!
-//! KIND is `pe`, `image`, `anchor`, `questions`, `register` or `run`, which the heads of these modules
+//! KIND is `pe`, `layout`, `image`, `anchor`, `questions`, `register` or `run`, which the heads of these modules
 //! describe. Words are separated by spaces. An empty line is printed between two files.
 //! `tools/golden/crates.py` makes vectors and golden output.
 //!
@@ -16,6 +16,7 @@
 
 mod anchor;
 mod image;
+mod layout;
 mod pe;
 mod questions;
 mod register;
@@ -40,6 +41,7 @@ fn main(rt: HostRuntime) -> Result<()> {
 fn answer(alloc: Global, kind: &str, row: &str) -> Result<String> {
     match kind {
         "pe" => answer_by(alloc, row, pe::print),
+        "layout" => answer_by(alloc, row, layout::print),
         "image" => image::answer(alloc, row),
         "anchor" => anchor::answer(alloc, row),
         "questions" => questions::answer(alloc, row),

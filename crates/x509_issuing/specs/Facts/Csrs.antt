@@ -30,13 +30,17 @@ IsAroundInfo-prop element r info = hlevel (same_element element (request_of info
 -- an element contains one CertificationRequestInfo
 pub info_once : (a b : DerElement) (r s : CertificationRequest) → request_of a r ≡ request_of b s → a ≡ b
 info_once a b r s e =
-    (same_three a (algorithm_identifier r.signature_algorithm) (bit_string r.signature) b (algorithm_identifier s.signature_algorithm) (bit_string s.signature) e).0
+    (same_three a (algorithm_identifier r.signature_algorithm) (bit_string r.signature) b (algorithm_identifier s.signature_algorithm)
+    (bit_string s.signature) e).0
 
 pub HasInfo-prop : (element : DerElement) (r : CertificationRequest) → IsProp (HasInfo element r)
 HasInfo-prop element r a b = Σ_prop_path (IsAroundInfo-prop element r) (info_once a.0 b.0 r r (sym a.1.0 ∙ b.1.0))
 
 abbrev coded_request : Coded CertificationRequest
-coded_request = record { code = λ r. octets_code.code (request_octets r); inj = λ a b e. requests_by_octets a b (octets_code.inj (request_octets a) (request_octets b) e) }
+coded_request = record {
+  code = λ r. octets_code.code (request_octets r);
+  inj = λ a b e. requests_by_octets a b (octets_code.inj (request_octets a) (request_octets b) e);
+}
 
 -- the element with the CertificationRequestInfo of a request is an encoding of it
 pub spelled_around : (info : DerElement) (r : CertificationRequest) → IsRequestInfo info r.certification_request_info → IsRequest (request_of info r) r
@@ -47,23 +51,28 @@ value_once : (a b : KeptRequest) → kept_request a ≡ kept_request b → a.req
 value_once a b e =
     ∥∥₁_elim a.spelled (Coded-set coded_request a.request b.request)
     (λ x. ∥∥₁_elim b.spelled (Coded-set coded_request a.request b.request)
-    (λ y. requests.once (kept_request b) a.request b.request (subst (λ (element : DerElement). IsRequest element a.request) e (spelled_around a.info a.request x)) (spelled_around b.info b.request y)))
+    (λ y. requests.once (kept_request b) a.request b.request
+    (subst (λ (element : DerElement). IsRequest element a.request) e (spelled_around a.info a.request x)) (spelled_around b.info b.request y)))
 
 abbrev kept_of : (info : DerElement) (r : CertificationRequest) → IsDer (request_of info r) → ∥ IsRequestInfo info r.certification_request_info ∥₁ → KeptRequest
 kept_of info r der spelled = record { info = info; request = r; der = der; spelled = spelled }
 
-same_facts : (a : KeptRequest) (der : IsDer (kept_request a)) (spelled : ∥ IsRequestInfo a.info a.request.certification_request_info ∥₁) → a ≡ kept_of a.info a.request der spelled
+same_facts : (a : KeptRequest) (der : IsDer (kept_request a)) (spelled : ∥ IsRequestInfo a.info a.request.certification_request_info ∥₁)
+    → a ≡ kept_of a.info a.request der spelled
 same_facts a der spelled =
     ap (λ (d : IsDer (kept_request a)). kept_of a.info a.request d a.spelled) (IsDerWithin-prop most_levels (kept_request a) a.der der)
     ∙ ap (λ (s : ∥ IsRequestInfo a.info a.request.certification_request_info ∥₁). kept_of a.info a.request der s) (squash₁ a.spelled spelled)
 
-same_value : (a : KeptRequest) (r : CertificationRequest) → a.request ≡ r → (der : IsDer (request_of a.info r)) (spelled : ∥ IsRequestInfo a.info r.certification_request_info ∥₁) → a ≡ kept_of a.info r der spelled
+same_value : (a : KeptRequest) (r : CertificationRequest) → a.request ≡ r
+    → (der : IsDer (request_of a.info r)) (spelled : ∥ IsRequestInfo a.info r.certification_request_info ∥₁) → a ≡ kept_of a.info r der spelled
 same_value a r e =
-    subst (λ (x : CertificationRequest). (der : IsDer (request_of a.info x)) (spelled : ∥ IsRequestInfo a.info x.certification_request_info ∥₁) → a ≡ kept_of a.info x der spelled) e (same_facts a)
+    subst (λ (x : CertificationRequest). (der : IsDer (request_of a.info x)) (spelled : ∥ IsRequestInfo a.info x.certification_request_info ∥₁)
+    → a ≡ kept_of a.info x der spelled) e (same_facts a)
 
 same_kept : (a b : KeptRequest) → a.info ≡ b.info → a.request ≡ b.request → a ≡ b
 same_kept a b info value =
-    subst (λ (x : DerElement). (der : IsDer (request_of x b.request)) (spelled : ∥ IsRequestInfo x b.request.certification_request_info ∥₁) → a ≡ kept_of x b.request der spelled) info
+    subst (λ (x : DerElement). (der : IsDer (request_of x b.request)) (spelled : ∥ IsRequestInfo x b.request.certification_request_info ∥₁)
+    → a ≡ kept_of x b.request der spelled) info
     (same_value a b.request value) b.der b.spelled
 
 -- requests with the same stored element are the same

@@ -20,7 +20,8 @@ use Rattle.x509_types.specs.declared.attribute.values.AttributeValues.{Attribute
 use Rattle.x509_types.specs.declared.attribute.values.AttributeValues.TheVariants as values
 use Rattle.x509_types.specs.declared.extension.Extension.{Extension}
 
-split_requests : (x y : List (List Extension)) (r s : List ℕ) → map extensions x ≡ map extensions y → kinds_of x ++ r ≡ kinds_of y ++ s → (kinds_of x ≡ kinds_of y) × (r ≡ s)
+split_requests : (x y : List (List Extension)) (r s : List ℕ) → map extensions x ≡ map extensions y → kinds_of x ++ r ≡ kinds_of y ++ s
+    → (kinds_of x ≡ kinds_of y) × (r ≡ s)
 split_requests [] [] r s w e = (refl, e)
 split_requests [] (b ∷ y) r s w e = absurd cc
 split_requests (a ∷ x) [] r s w e = absurd cc
@@ -32,7 +33,8 @@ split_requests (a ∷ x) (b ∷ y) r s w e =
     let behind = split_requests x y r s others here.1 in
     (ap (λ ns. ns ++ kinds_of x) here.0 ∙ ap (λ ns. map number_of b ++ ns) behind.0, behind.1)
 
-split_asked : (u v : AttributeValues) (r s : List ℕ) → kind_of_values u ≡ kind_of_values v → attribute_values u ≡ attribute_values v → asked_kinds u ++ r ≡ asked_kinds v ++ s → (asked_kinds u ≡ asked_kinds v) × (r ≡ s)
+split_asked : (u v : AttributeValues) (r s : List ℕ) → kind_of_values u ≡ kind_of_values v → attribute_values u ≡ attribute_values v
+    → asked_kinds u ++ r ≡ asked_kinds v ++ s → (asked_kinds u ≡ asked_kinds v) × (r ≡ s)
 split_asked (values.ContentType x) (values.ContentType y) r s kind w e = (refl, e)
 split_asked (values.MessageDigest x) (values.MessageDigest y) r s kind w e = (refl, e)
 split_asked (values.Extensions x) (values.Extensions y) r s kind w e = split_requests x y r s (same_members (map extensions x) (map extensions y) w) e

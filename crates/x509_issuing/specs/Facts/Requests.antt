@@ -41,15 +41,18 @@ request_fields s k t l a b e =
 same_name : (a b : CertificationRequestInfo) → name a.subject ≡ name b.subject → a.subject ≡ b.subject
 same_name a b e = names.once (name a.subject) a.subject b.subject refl e
 
-pub same_request_info : (a b : CertificationRequestInfo) → a.subject ≡ b.subject → a.subject_public_key_info ≡ b.subject_public_key_info → a.attributes ≡ b.attributes → a ≡ b
+pub same_request_info : (a b : CertificationRequestInfo) → a.subject ≡ b.subject → a.subject_public_key_info ≡ b.subject_public_key_info
+    → a.attributes ≡ b.attributes → a ≡ b
 same_request_info a b subject key attributes i = record { subject = subject i; subject_public_key_info = key i; attributes = attributes i }
 
 infos_of_once : (element : DerElement) (a b : CertificationRequestInfo) → IsRequestInfo element a → IsRequestInfo element b → a ≡ b
 infos_of_once element a b p q =
     let same = request_fields (name a.subject) p.key (name b.subject) q.key p.attributes q.attributes (sym p.is ∙ q.is) in
     same_request_info a b (same_name a b same.0)
-    (public_key_infos.once q.key a.subject_public_key_info b.subject_public_key_info (subst (λ (e : DerElement). IsPublicKeyInfo e a.subject_public_key_info) same.1 p.keyed) q.keyed)
-    (option_once AreAttributes attribute_lists.once q.attributes a.attributes b.attributes (subst (λ (o : Option DerElement). SpellsOption AreAttributes o a.attributes) same.2 p.spelled) q.spelled)
+    (public_key_infos.once q.key a.subject_public_key_info b.subject_public_key_info
+    (subst (λ (e : DerElement). IsPublicKeyInfo e a.subject_public_key_info) same.1 p.keyed) q.keyed)
+    (option_once AreAttributes attribute_lists.once q.attributes a.attributes b.attributes
+    (subst (λ (o : Option DerElement). SpellsOption AreAttributes o a.attributes) same.2 p.spelled) q.spelled)
 
 option_row_formed : (o : Option DerElement) → IsFormedOption o → AreWellFormed (row (option_to_list o))
 option_row_formed None p = tt
@@ -93,12 +96,15 @@ request_infos = record {
 
 request_infos_determined : (a b : CertificationRequestInfo) → asked_of a.attributes ≡ asked_of b.attributes → request_info a ≡ request_info b → a ≡ b
 request_infos_determined a b asked e =
-    let same = request_fields (name a.subject) (public_key_info a.subject_public_key_info) (name b.subject) (public_key_info b.subject_public_key_info) (option_map attribute_list a.attributes) (option_map attribute_list b.attributes) e in
-    same_request_info a b (same_name a b same.0) (infos_once a.subject_public_key_info b.subject_public_key_info same.1) (attribute_options_determined a.attributes b.attributes asked same.2)
+    let same = request_fields (name a.subject) (public_key_info a.subject_public_key_info) (name b.subject) (public_key_info b.subject_public_key_info)
+    (option_map attribute_list a.attributes) (option_map attribute_list b.attributes) e in
+    same_request_info a b (same_name a b same.0) (infos_once a.subject_public_key_info b.subject_public_key_info same.1)
+    (attribute_options_determined a.attributes b.attributes asked same.2)
 
 pub request_infos_by_octets : (a b : CertificationRequestInfo) → request_info_octets a ≡ request_info_octets b → a ≡ b
 request_infos_by_octets a b e =
-    let parts = split_before 0x30 (omega arith) (asked_of a.attributes) (asked_of b.attributes) (encoding (request_info a)) (encoding (request_info b)) _ _ refl refl (small_asked_of a.attributes) (small_asked_of b.attributes) e in
+    let parts = split_before 0x30 (omega arith) (asked_of a.attributes) (asked_of b.attributes) (encoding (request_info a))
+    (encoding (request_info b)) _ _ refl refl (small_asked_of a.attributes) (small_asked_of b.attributes) e in
     request_infos_determined a b parts.0 (formed_encoding_once (request_info a) (request_info b) (request_infos_formed a) (request_infos_formed b) parts.1)
 
 -- ---- with their signatures
@@ -109,22 +115,32 @@ same_algorithm a b e = algorithms.once (algorithm_identifier a) a b refl e
 same_bits : (a b : BitString) → bit_string a ≡ bit_string b → a ≡ b
 same_bits a b e = bit_strings.once (bit_string a) a b refl e
 
-pub same_request : (a b : CertificationRequest) → a.certification_request_info ≡ b.certification_request_info → a.signature_algorithm ≡ b.signature_algorithm → a.signature ≡ b.signature → a ≡ b
+pub same_request : (a b : CertificationRequest) → a.certification_request_info ≡ b.certification_request_info → a.signature_algorithm ≡ b.signature_algorithm
+    → a.signature ≡ b.signature → a ≡ b
 same_request a b info algorithm value i = record { certification_request_info = info i; signature_algorithm = algorithm i; signature = value i }
 
 requests_once : (element : DerElement) (a b : CertificationRequest) → IsRequest element a → IsRequest element b → a ≡ b
 requests_once element a b p q =
-    let same = same_three p.info (algorithm_identifier a.signature_algorithm) (bit_string a.signature) q.info (algorithm_identifier b.signature_algorithm) (bit_string b.signature) (sym p.is ∙ q.is) in
-    same_request a b (request_infos.once q.info a.certification_request_info b.certification_request_info (subst (λ (e : DerElement). IsRequestInfo e a.certification_request_info) same.0 p.spelled) q.spelled)
+    let same = same_three p.info (algorithm_identifier a.signature_algorithm) (bit_string a.signature) q.info (algorithm_identifier b.signature_algorithm)
+    (bit_string b.signature) (sym p.is ∙ q.is) in
+    same_request a b (request_infos.once q.info a.certification_request_info b.certification_request_info
+    (subst (λ (e : DerElement). IsRequestInfo e a.certification_request_info) same.0 p.spelled) q.spelled)
     (same_algorithm a.signature_algorithm b.signature_algorithm same.1) (same_bits a.signature b.signature same.2)
 
-requests_determined : (a b : CertificationRequest) → asked_of a.certification_request_info.attributes ≡ asked_of b.certification_request_info.attributes → request a ≡ request b → a ≡ b
+requests_determined : (a b : CertificationRequest) → asked_of a.certification_request_info.attributes ≡ asked_of b.certification_request_info.attributes
+    → request a ≡ request b → a ≡ b
 requests_determined a b asked e =
-    let same = same_three (request_info a.certification_request_info) (algorithm_identifier a.signature_algorithm) (bit_string a.signature) (request_info b.certification_request_info) (algorithm_identifier b.signature_algorithm) (bit_string b.signature) e in
-    same_request a b (request_infos_determined a.certification_request_info b.certification_request_info asked same.0) (same_algorithm a.signature_algorithm b.signature_algorithm same.1) (same_bits a.signature b.signature same.2)
+    let same = same_three (request_info a.certification_request_info) (algorithm_identifier a.signature_algorithm) (bit_string a.signature)
+    (request_info b.certification_request_info) (algorithm_identifier b.signature_algorithm) (bit_string b.signature) e in
+    same_request a b (request_infos_determined a.certification_request_info b.certification_request_info asked same.0)
+    (same_algorithm a.signature_algorithm b.signature_algorithm same.1) (same_bits a.signature b.signature same.2)
 
 pub requests_formed : (r : CertificationRequest) → IsWellFormed (request r)
-requests_formed r = ((omega arith, omega arith, omega arith), refl, (request_infos.formed r.certification_request_info, (algorithms.formed r.signature_algorithm, (bit_strings.formed r.signature, tt))))
+requests_formed r = (
+  (omega arith, omega arith, omega arith),
+  refl,
+  (request_infos.formed r.certification_request_info, (algorithms.formed r.signature_algorithm, (bit_strings.formed r.signature, tt))),
+)
 
 pub requests : IsGrammar IsRequest request inner_of_request
 requests = record {
@@ -138,5 +154,6 @@ pub requests_by_octets : (a b : CertificationRequest) → request_octets a ≡ r
 requests_by_octets a b e =
     let x = a.certification_request_info.attributes in
     let y = b.certification_request_info.attributes in
-    let parts = split_before 0x30 (omega arith) (asked_of x) (asked_of y) (encoding (request a)) (encoding (request b)) _ _ refl refl (small_asked_of x) (small_asked_of y) e in
+    let parts = split_before 0x30 (omega arith) (asked_of x) (asked_of y) (encoding (request a)) (encoding (request b)) _ _ refl refl (small_asked_of x)
+    (small_asked_of y) e in
     requests_determined a b parts.0 (formed_encoding_once (request a) (request b) (requests_formed a) (requests_formed b) parts.1)

@@ -1,3 +1,4 @@
+use Rattle.std.proofs.Common.{[], ◌∷◌}
 use Rattle.std.proofs.lemmas.Result.{MatchResult-weaker}
 use Rattle.key_core.proofs.SmallRefusals.{half_or_memory}
 use Rattle.ca_register.proofs.keys.public_key_of.Goals as goal

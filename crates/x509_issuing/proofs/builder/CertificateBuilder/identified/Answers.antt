@@ -9,12 +9,14 @@ use Rattle.x509_issuing.proofs.builder.CertificateBuilder.identified.Goals as go
 pub returns-in_err-name-clause-answer : goal.returns-in_err-name-clause-answer
 returns-in_err-name-clause-answer g c =
     let p = err_from_is_err_and c.from_residual.result c.from_residual.ensures.1 in
-    rw (p.1, p.2) (refused_before errors.Memory (subject_steps (g.S.Scheme.judge c.args.scheme.now) c.args.issuer.now.self_signed c.args.self.now c.args.issuer.now)
+    rw (p.1, p.2)
+    (refused_before errors.Memory (subject_steps (g.S.Scheme.judge c.args.scheme.now) c.args.issuer.now.self_signed c.args.self.now c.args.issuer.now)
     (identifier_step (g.S.Scheme.judge c.args.scheme.now) c.args.self.now c.args.issuer.now ∷ []) c.in_err-name.field-0.0 c.in_err-name.ensures.answer)
 
 pub returns-in-Err-clause-answer : goal.returns-in-Err-clause-answer
 returns-in-Err-clause-answer g c =
     refused_behind errors.Memory (subject_steps (g.S.Scheme.judge c.args.scheme.now) c.args.issuer.now.self_signed c.args.self.now c.args.issuer.now)
     (identifier_step (g.S.Scheme.judge c.args.scheme.now) c.args.self.now c.args.issuer.now ∷ []) c.no_key_id.result
-    (subject_taken (g.S.Scheme.judge c.args.scheme.now) c.args.issuer.now.self_signed c.args.self.now c.args.issuer.now c.in_ok-name.name.name c.in_ok-name.key.info c.in_ok-name.ensures.answer)
+    (subject_taken (g.S.Scheme.judge c.args.scheme.now) c.args.issuer.now.self_signed c.args.self.now c.args.issuer.now c.in_ok-name.name.name
+    c.in_ok-name.key.info c.in_ok-name.ensures.answer)
     (inl (inl (c.in_ok-name.name.name, c.in_ok-name.key.info, c.in_ok-name.ensures.answer, (c.in-Err.source, c.no_key_id.ensures, c.in-Err.ensures.answer))))

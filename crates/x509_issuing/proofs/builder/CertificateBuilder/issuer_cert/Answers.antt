@@ -9,7 +9,8 @@ returns-in_ok-from_slice-in-Some-clause-ok c =
 
 pub returns-in-None-clause-ok : goal.returns-in-None-clause-ok
 returns-in-None-clause-ok c =
-    issued_under c.args.issuer_cert.now c.args.issuer_key c.args.self.now c.set_issuer-in-None.new.self c.args.self.now.authority_key_identifier c.in_ok-name.name
+    issued_under c.args.issuer_cert.now c.args.issuer_key c.args.self.now c.set_issuer-in-None.new.self c.args.self.now.authority_key_identifier
+    c.in_ok-name.name
     (inl (c.in-None.ensures, refl)) c.in_ok-name.ensures c.set_issuer-in-None.ensures
 
 pub returns-in_ok-from_slice-in-Some-clause-identified : goal.returns-in_ok-from_slice-in-Some-clause-identified
