@@ -1,5 +1,6 @@
 -- The bag of members, one member at a time.
-use Rattle.std.proofs.Common.{◌≡◌, ◌+◌, ◌<◌, ◌≤◌, ◌^◌, List, [], ◌∷◌, Option, Some, None, MatchOption, length, refl, sym, ap, subst, ◌∙◌, inl, inr, arith, length-append}
+use Rattle.std.proofs.Common.{◌≡◌, ◌+◌, ◌<◌, ◌≤◌, ◌^◌, List, [], ◌∷◌, Option, Some, None, MatchOption}
+use Rattle.std.proofs.Common.{length, refl, sym, ap, subst, ◌∙◌, inl, inr, arith, length-append}
 use Rattle.der_core.specs.DerElement.{DerElement, DerElements, Nil, Cons, Primitive, Constructed, listed, kids_of}
 use Rattle.der_core.specs.Encoding.{encoding, encodings, IsDer}
 use Rattle.der_core.specs.Facts.Fronts.{some_octets}
@@ -17,19 +18,23 @@ use Rattle.authenticode_core.proofs.OneCertificate.{one_certificate}
 pub no_member : (member : DerElement) → ((c : Certificate) → IsCertificate member c → ⊥) → (c : CertificateElements) → IsMember member c → ⊥
 no_member member refused c m = refused m.fits.0 (record { elements = c; is = m.is; spelled = m.fits.1 })
 
-passed_over : (member : DerElement) (left : List DerElement) (bag : List CertificateElements) → ((c : CertificateElements) → IsMember member c → ⊥) → IsBag (member ∷ left) bag → IsBag left bag
+passed_over : (member : DerElement) (left : List DerElement) (bag : List CertificateElements) → ((c : CertificateElements) → IsMember member c → ⊥)
+    → IsBag (member ∷ left) bag → IsBag left bag
 passed_over member left bag refused (inl p) = p.1
 passed_over member left bag refused (inr p) = absurd (refused p.0 p.3)
 
-pub past : (members left : List DerElement) (member : DerElement) → members ≡ member ∷ left → ((c : Certificate) → IsCertificate member c → ⊥) → (bag : List CertificateElements) → IsBag members bag → IsBag left bag
+pub past : (members left : List DerElement) (member : DerElement) → members ≡ member ∷ left → ((c : Certificate) → IsCertificate member c → ⊥)
+    → (bag : List CertificateElements) → IsBag members bag → IsBag left bag
 past members left member e refused bag p = passed_over member left bag (no_member member refused) (subst (λ (ms : List DerElement). IsBag ms bag) e p)
 
-pub before_past : (members left : List DerElement) (member : DerElement) → members ≡ member ∷ left → ((c : Certificate) → IsCertificate member c → ⊥) → (bag : List CertificateElements) → IsBag left bag → IsBag members bag
+pub before_past : (members left : List DerElement) (member : DerElement) → members ≡ member ∷ left → ((c : Certificate) → IsCertificate member c → ⊥)
+    → (bag : List CertificateElements) → IsBag left bag → IsBag members bag
 before_past members left member e refused bag p = subst (λ (ms : List DerElement). IsBag ms bag) (sym e) (inl (no_member member refused, p))
 
 -- ---- a member that is a certificate
 
-first_only : (member : DerElement) (left : List DerElement) (c : CertificateElements) (bag : List CertificateElements) → IsMember member c → IsBag (member ∷ left) bag
+first_only : (member : DerElement) (left : List DerElement) (c : CertificateElements) (bag : List CertificateElements) → IsMember member c
+    → IsBag (member ∷ left) bag
     → (others : List CertificateElements) × (bag ≡ c ∷ others) × IsBag left others
 first_only member left c bag m (inl p) = absurd (p.0 c m)
 first_only member left c bag m (inr p) =
@@ -68,6 +73,7 @@ counted_kids (Constructed tag elements) kids der e =
     let all : length (listed elements) < 2 ^ 32 = omega (arith, der.short.0, count_within elements) in
     subst (λ (ks : List DerElement). length ks < 2 ^ 32) same all
 
-pub counted_within : (elem : Elem) (r : Option Kids) → MatchOption r (kids_of elem.is.0 ≡ None) (λ k. kids_of elem.is.0 ≡ Some k.are.0) → 0 + length (left_members r) < 2 ^ 32
+pub counted_within : (elem : Elem) (r : Option Kids) → MatchOption r (kids_of elem.is.0 ≡ None) (λ k. kids_of elem.is.0 ≡ Some k.are.0)
+    → 0 + length (left_members r) < 2 ^ 32
 counted_within elem None none = omega arith
 counted_within elem (Some kids) e = omega (arith, counted_kids elem.is.0 kids.are.0 elem.is.1.0 e)

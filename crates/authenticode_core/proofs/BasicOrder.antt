@@ -6,7 +6,8 @@ use Rattle.cms_types.specs.SignerElements.{SignerElements}
 use Rattle.cms_types.specs.SignerView.{signer_elements_at}
 use Rattle.der_core.specs.DerElement.{DerElement}
 use Rattle.der_core.specs.Rules.{IsMet, IsFirstBroken}
-use Rattle.der_core.proofs.RuleLists.{AreMet, AreReturnedOnce, IsReturnedOnce, NoneReturns, broken_before, broken_behind, met_together, none_broken, none_together, one_broken, one_of_two, returned_together}
+use Rattle.der_core.proofs.RuleLists.{AreMet, AreReturnedOnce, IsReturnedOnce, NoneReturns, broken_before, broken_behind}
+use Rattle.der_core.proofs.RuleLists.{met_together, none_broken, none_together, one_broken, one_of_two, returned_together}
 use Rattle.key_core.specs.Verifying.{Judge}
 use Rattle.authenticode_core.specs.Basic.{IsRefusedPart, VouchesFor}
 use Rattle.authenticode_core.specs.FormRules.{FileDiffers, HasForm, form_rules}
@@ -27,8 +28,10 @@ use Rattle.authenticode_core.proofs.OneSigning.{one_signing_refusal, place_once,
 file_met : (f : SignedDataElements) (d : IndirectData) (file_hash : List ℕ) → HasIndirectData f d → d.digest ≡ file_hash → IsMet (FileDiffers f file_hash)
 file_met f d file_hash has binds e broken = broken.2 (ap (λ (x : IndirectData). x.digest) (indirect_once f broken.0 d broken.1 has) ∙ binds)
 
-pub vouched_or_not : (judge : Judge) (f : SignedDataElements) (form : Form) (file_hash : List ℕ) (is : IsFormOf f form) → form.content.digest.now ≡ file_hash → (r : Result ℕ AuthenticodeError)
-    → MatchResult r (λ place. IsSigned judge f is.d (signer_elements_at form.signer) place) (λ e. IsFirstBroken (signing_rules judge f is.d (signer_elements_at form.signer)) e ⊎ (e ≡ errors.Memory))
+pub vouched_or_not : (judge : Judge) (f : SignedDataElements) (form : Form) (file_hash : List ℕ) (is : IsFormOf f form) → form.content.digest.now ≡ file_hash
+    → (r : Result ℕ AuthenticodeError)
+    → MatchResult r (λ place. IsSigned judge f is.d (signer_elements_at form.signer) place)
+    (λ e. IsFirstBroken (signing_rules judge f is.d (signer_elements_at form.signer)) e ⊎ (e ≡ errors.Memory))
     → MatchResult r (VouchesFor judge f file_hash) (λ e. IsRefusedPart judge f file_hash e ⊎ (e ≡ errors.Memory))
 vouched_or_not judge f form file_hash is binds (Ok place) signed = record {
   algorithm = is.algorithm;
@@ -39,14 +42,21 @@ vouched_or_not judge f form file_hash is binds (Ok place) signed = record {
   signed = signed;
 }
 vouched_or_not judge f form file_hash is binds (Err e) (inl broken) =
-    inl (is.d, signer_elements_at form.signer, is.has.indirect, is.has.signer, inr (file_met f is.d file_hash is.has.indirect (sym is.content.digest ∙ binds), broken))
+    inl (
+      is.d,
+      signer_elements_at form.signer,
+      is.has.indirect,
+      is.has.signer,
+      inr (file_met f is.d file_hash is.has.indirect (sym is.content.digest ∙ binds), broken),
+    )
 vouched_or_not judge f form file_hash is binds (Err e) (inr memory) = inr memory
 
 one_place : (judge : Judge) (f : SignedDataElements) (file_hash : List ℕ) (p q : ℕ) → VouchesFor judge f file_hash p → VouchesFor judge f file_hash q → p ≡ q
 one_place judge f file_hash p q a b =
     let d = indirect_once f a.d b.d a.form.indirect b.form.indirect in
     let g = signer_once f a.g b.g a.form.signer b.form.signer in
-    place_once judge f b.d b.g p q (subst (λ (x : SignerElements). IsSigned judge f b.d x p) g (subst (λ (x : IndirectData). IsSigned judge f x a.g p) d a.signed)) b.signed
+    place_once judge f b.d b.g p q
+    (subst (λ (x : SignerElements). IsSigned judge f b.d x p) g (subst (λ (x : IndirectData). IsSigned judge f x a.g p) d a.signed)) b.signed
 
 part_returned : (judge : Judge) (f : SignedDataElements) (file_hash : List ℕ) → IsReturnedOnce (IsRefusedPart judge f file_hash)
 part_returned judge f file_hash a b p q =
@@ -57,13 +67,15 @@ part_returned judge f file_hash a b p q =
     (subst (λ (x : IndirectData). IsFirstBroken (FileDiffers f file_hash ∷ signing_rules judge f x p.1) a) d p.4) in
     one_of_two (FileDiffers f file_hash) (signing_rules judge f q.0 q.1) (file_returned f file_hash) (one_signing_refusal judge f q.0 q.1) a b moved q.4
 
-part_unbroken : (judge : Judge) (f : SignedDataElements) (file_hash : List ℕ) (place : ℕ) (d : IndirectData) (g : SignerElements) (e : AuthenticodeError) → HasIndirectData f d → IsFirstSigner f g → d.digest ≡ file_hash → IsSigned judge f d g place
+part_unbroken : (judge : Judge) (f : SignedDataElements) (file_hash : List ℕ) (place : ℕ) (d : IndirectData) (g : SignerElements) (e : AuthenticodeError)
+    → HasIndirectData f d → IsFirstSigner f g → d.digest ≡ file_hash → IsSigned judge f d g place
     → IsFirstBroken (FileDiffers f file_hash ∷ signing_rules judge f d g) e → ⊥
 part_unbroken judge f file_hash place d g e has first binds signed (inl p) =
     p.2 (ap (λ (x : IndirectData). x.digest) (indirect_once f p.0 d p.1 has) ∙ binds)
 part_unbroken judge f file_hash place d g e has first binds signed (inr p) = signed_breaks_no_rule judge f d g place e first signed p.1
 
-part_met : (judge : Judge) (f : SignedDataElements) (file_hash : List ℕ) (place : ℕ) → VouchesFor judge f file_hash place → IsMet (IsRefusedPart judge f file_hash)
+part_met : (judge : Judge) (f : SignedDataElements) (file_hash : List ℕ) (place : ℕ) → VouchesFor judge f file_hash place
+    → IsMet (IsRefusedPart judge f file_hash)
 part_met judge f file_hash place v = λ e p.
     let d = indirect_once f p.0 v.d p.2 v.form.indirect in
     let g = signer_once f p.1 v.g p.3 v.form.signer in
@@ -89,7 +101,8 @@ module _ (f : SignedDataElements) (given : Option (List ℕ)) where
   hash_met : (hash : List ℕ) → given ≡ Some hash → IsMet (LacksHash given)
   hash_met hash is = λ e broken. given_or_not given hash is broken.0
 
-  shape_met : (algorithm : DerElement) (d : IndirectData) (g : SignerElements) (hash : List ℕ) → HasForm f algorithm d g → given ≡ Some hash → AreMet (shape_rules f given)
+  shape_met : (algorithm : DerElement) (d : IndirectData) (g : SignerElements) (hash : List ℕ) → HasForm f algorithm d g → given ≡ Some hash
+      → AreMet (shape_rules f given)
   shape_met algorithm d g hash form is = met_together (form_rules f) (LacksHash given ∷ []) (form_met f algorithm d g form) (hash_met hash is, tt)
 
   pub shape_returned : AreReturnedOnce (shape_rules f given)
@@ -105,7 +118,8 @@ module _ (f : SignedDataElements) (given : Option (List ℕ)) where
   form_in_shape e broken = broken_before (form_rules f) (LacksHash given ∷ []) e broken
 
   -- the refusal by a broken rule is the one that it reports
-  pub refused_so : {A : Type 0} (r : Result A AuthenticodeError) (e : AuthenticodeError) → r ≡ Err e → IsFirstBroken (shape_rules f given) e → (x : AuthenticodeError) → IsFirstBroken (shape_rules f given) x → r ≡ Err x
+  pub refused_so : {A : Type 0} (r : Result A AuthenticodeError) (e : AuthenticodeError) → r ≡ Err e → IsFirstBroken (shape_rules f given) e
+      → (x : AuthenticodeError) → IsFirstBroken (shape_rules f given) x → r ≡ Err x
   refused_so r e is broken x other = is ∙ ap Err (one_broken (shape_rules f given) shape_returned e x broken other)
 
   -- ---- all rules
@@ -114,7 +128,8 @@ module _ (f : SignedDataElements) (given : Option (List ℕ)) where
     pub basic_met : (place : ℕ) → IsVouchedAt judge given f place → AreMet (basic_rules judge f given)
     basic_met place at =
         let v = at.2 in
-        let part : IsMet (IsRefusedFor judge f given) = λ e broken. part_met judge f at.0 place v e (subst (λ (hash : List ℕ). IsRefusedPart judge f hash e) (same_hash given broken.0 at.0 broken.1 at.1) broken.2) in
+        let part : IsMet (IsRefusedFor judge f given) = λ e broken.
+        part_met judge f at.0 place v e (subst (λ (hash : List ℕ). IsRefusedPart judge f hash e) (same_hash given broken.0 at.0 broken.1 at.1) broken.2) in
         met_together (shape_rules f given) (IsRefusedFor judge f given ∷ []) (shape_met v.algorithm v.d v.g at.0 v.form at.1) (part, tt)
 
     for_returned : IsReturnedOnce (IsRefusedFor judge f given)
@@ -130,8 +145,10 @@ module _ (f : SignedDataElements) (given : Option (List ℕ)) where
     pub shape_in_basic : (e : AuthenticodeError) → IsFirstBroken (shape_rules f given) e → IsFirstBroken (basic_rules judge f given) e
     shape_in_basic e broken = broken_before (shape_rules f given) (IsRefusedFor judge f given ∷ []) e broken
 
-    pub vouched_at_or_not : (algorithm : DerElement) (d : IndirectData) (g : SignerElements) (hash : List ℕ) → HasForm f algorithm d g → given ≡ Some hash → (r : Result ℕ AuthenticodeError)
-        → MatchResult r (VouchesFor judge f hash) (λ e. IsRefusedPart judge f hash e ⊎ (e ≡ errors.Memory)) → MatchResult r (IsVouchedAt judge given f) (RefusesAuthenticodeBy (basic_rules judge f given))
+    pub vouched_at_or_not : (algorithm : DerElement) (d : IndirectData) (g : SignerElements) (hash : List ℕ) → HasForm f algorithm d g → given ≡ Some hash
+        → (r : Result ℕ AuthenticodeError)
+        → MatchResult r (VouchesFor judge f hash) (λ e. IsRefusedPart judge f hash e ⊎ (e ≡ errors.Memory))
+        → MatchResult r (IsVouchedAt judge given f) (RefusesAuthenticodeBy (basic_rules judge f given))
     vouched_at_or_not algorithm d g hash form is (Ok place) v = (hash, is, v)
     vouched_at_or_not algorithm d g hash form is (Err e) (inl part) =
         inl (broken_behind (shape_rules f given) (IsRefusedFor judge f given ∷ []) e (shape_met algorithm d g hash form is) (inl (hash, is, part)))

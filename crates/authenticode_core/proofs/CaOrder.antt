@@ -31,11 +31,13 @@ use Rattle.authenticode_core.proofs.SignerOrder.{first_met, key_name_met, named_
 
 -- ---- the certificate of a signer is on its own walk
 
-pub walk_is_some : (f : SignedDataElements) (place : ℕ) (c : CertificateElements) (s : HasSigner f place c) (walk : List ℕ) → IsIssuerWalk s.0 c walk → walk ≡ [] → ⊥
+pub walk_is_some : (f : SignedDataElements) (place : ℕ) (c : CertificateElements) (s : HasSigner f place c) (walk : List ℕ) → IsIssuerWalk s.0 c walk
+    → walk ≡ [] → ⊥
 walk_is_some f place c s [] none e = none place c s.2.later s.2.stands refl
 walk_is_some f place c s (first ∷ others) walked e = absurd cc
 
-pub signer_ca_of : (f : SignedDataElements) (place : ℕ) (c : CertificateElements) (s : HasSigner f place c) (walk : List ℕ) (ca : DerElement) → IsIssuerWalk s.0 c walk → IsNameAt s.0 walk ca → IsSignerCa f ca
+pub signer_ca_of : (f : SignedDataElements) (place : ℕ) (c : CertificateElements) (s : HasSigner f place c) (walk : List ℕ) (ca : DerElement)
+    → IsIssuerWalk s.0 c walk → IsNameAt s.0 walk ca → IsSignerCa f ca
 signer_ca_of f place c s walk ca walked named =
     record { bag = s.0; is_bag = s.1; place = place; certificate = c; is_signer = s.2; walk = walk; is_walk = walked; named = named }
 
@@ -72,17 +74,20 @@ module _ (policy : Policy) (f : SignedDataElements) where
   -- ---- what is listed breaks none
 
   pub ca_met : (a : Accepted) → IsSignerListed policy f a → AreMet (ca_rules policy f)
-  ca_met a v = met_together (named_rules f) (HasUntrustedCa policy f ∷ []) (named_met f v.bag v.place v.certificate v.is_bag v.is_signer) (trusted_met v.listed, tt)
+  ca_met a v =
+      met_together (named_rules f) (HasUntrustedCa policy f ∷ []) (named_met f v.bag v.place v.certificate v.is_bag v.is_signer) (trusted_met v.listed, tt)
 
   -- ---- refusals
 
-  pub ca_unnamed : (g : SignerElements) (e : AuthenticodeError) → IsFirstSigner f g → RefusesAuthenticodeBy (IsNamedByKey g ∷ HasNoCertificate f g ∷ []) e → RefusesAuthenticodeBy (ca_rules policy f) e
+  pub ca_unnamed : (g : SignerElements) (e : AuthenticodeError) → IsFirstSigner f g → RefusesAuthenticodeBy (IsNamedByKey g ∷ HasNoCertificate f g ∷ []) e
+      → RefusesAuthenticodeBy (ca_rules policy f) e
   ca_unnamed g e first (inl (inl broken)) = inl (inr (first_met f g first, inl (g, first, broken)))
   ca_unnamed g e first (inl (inr (met, inl broken))) = inl (inr (first_met f g first, inr (key_name_met f g first met, inl (g, first, broken))))
   ca_unnamed g e first (inl (inr (met, inr none))) = absurd none.1
   ca_unnamed g e first (inr memory) = inr memory
 
-  pub ca_untrusted : (place : ℕ) (c : CertificateElements) (e : AuthenticodeError) → HasSigner f place c → HasUntrustedCa policy f e ⊎ (e ≡ errors.Memory) → RefusesAuthenticodeBy (ca_rules policy f) e
+  pub ca_untrusted : (place : ℕ) (c : CertificateElements) (e : AuthenticodeError) → HasSigner f place c → HasUntrustedCa policy f e ⊎ (e ≡ errors.Memory)
+      → RefusesAuthenticodeBy (ca_rules policy f) e
   ca_untrusted place c e s (inl broken) = inl (broken_behind (named_rules f) (HasUntrustedCa policy f ∷ []) e (named_met f s.0 place c s.1 s.2) (inl broken))
   ca_untrusted place c e s (inr memory) = inr memory
 
@@ -93,14 +98,18 @@ module _ (policy : Policy) (f : SignedDataElements) where
 
   module _ (list : CertificateTrustList) (is : option_copied policy.list ≡ Some list) (ca : DerElement) (signer : IsSignerCa f ca) where
     pub trusted_by : IsOnList list policy.now ca ⊎ IsExcluded policy ca → IsTrustedCaOf policy f
-    trusted_by so = λ other given_too. (ca, signer, subst (λ (l : CertificateTrustList). IsOnList l policy.now ca ⊎ IsExcluded policy ca) (given_once given list other is given_too) so)
+    trusted_by so = λ other given_too.
+        (ca, signer, subst (λ (l : CertificateTrustList). IsOnList l policy.now ca ⊎ IsExcluded policy ca) (given_once given list other is given_too) so)
 
-    pub untrusted_by : (e other : AuthenticodeError) → IsFirstBroken (name_rules list policy.now ca) e → ((other ≡ e) × (IsExcluded policy ca → ⊥)) ⊎ (other ≡ errors.Memory) → HasUntrustedCa policy f other ⊎ (other ≡ errors.Memory)
-    untrusted_by e other broken (inl (same, none)) = inl (list, is, (ca, signer, none, subst (λ (x : AuthenticodeError). IsFirstBroken (name_rules list policy.now ca) x) (sym same) broken))
+    pub untrusted_by : (e other : AuthenticodeError) → IsFirstBroken (name_rules list policy.now ca) e
+        → ((other ≡ e) × (IsExcluded policy ca → ⊥)) ⊎ (other ≡ errors.Memory) → HasUntrustedCa policy f other ⊎ (other ≡ errors.Memory)
+    untrusted_by e other broken (inl (same, none)) =
+        inl (list, is, (ca, signer, none, subst (λ (x : AuthenticodeError). IsFirstBroken (name_rules list policy.now ca) x) (sym same) broken))
     untrusted_by e other broken (inr memory) = inr memory
 
     pub excluded_or_not : {X : Type 0} (error : AuthenticodeError) (r : Result X AuthenticodeError) → IsFirstBroken (name_rules list policy.now ca) error
-        → MatchResult r (λ _. IsExcluded policy ca) (λ e. ((e ≡ error) × (IsExcluded policy ca → ⊥)) ⊎ (e ≡ errors.Memory)) → MatchResult r (λ _. IsTrustedCaOf policy f) (λ e. HasUntrustedCa policy f e ⊎ (e ≡ errors.Memory))
+        → MatchResult r (λ _. IsExcluded policy ca) (λ e. ((e ≡ error) × (IsExcluded policy ca → ⊥)) ⊎ (e ≡ errors.Memory))
+        → MatchResult r (λ _. IsTrustedCaOf policy f) (λ e. HasUntrustedCa policy f e ⊎ (e ≡ errors.Memory))
     excluded_or_not error (Ok x) broken excluded = trusted_by (inr excluded)
     excluded_or_not error (Err e) broken answer = untrusted_by error e broken answer
 

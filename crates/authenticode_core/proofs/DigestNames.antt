@@ -24,7 +24,8 @@ of_identifier element hash n = (n.parameters, n.is)
 -- and is one digest algorithm
 pub named_once : (element : DerElement) (a b : HashAlgorithm) → NamesDigest element a → NamesDigest element b → a ≡ b
 named_once element a b p q =
-    p.named ∙ ap hash_of (identifier_same p.variant q.variant (identifier_once element (digest_identifier p.variant) (digest_identifier q.variant) (of_identifier element a p) (of_identifier element b q))) ∙ sym q.named
+    p.named ∙ ap hash_of (identifier_same p.variant q.variant
+    (identifier_once element (digest_identifier p.variant) (digest_identifier q.variant) (of_identifier element a p) (of_identifier element b q))) ∙ sym q.named
 
 -- ---- how it is read
 
@@ -38,10 +39,12 @@ of_element now r octets read element p q =
 pub unidentified : (element : DerElement) → ((oid : List ℕ) → IsOfIdentifier element oid → ⊥) → (hash : HashAlgorithm) → NamesDigest element hash → ⊥
 unidentified element none hash n = none (digest_identifier n.variant) (of_identifier element hash n)
 
-pub unnamed : (element : DerElement) (oid : List ℕ) → IsOfIdentifier element oid → ((variant : ShaVariant) → digest_identifier variant ≢ oid) → (hash : HashAlgorithm) → NamesDigest element hash → ⊥
+pub unnamed : (element : DerElement) (oid : List ℕ) → IsOfIdentifier element oid → ((variant : ShaVariant) → digest_identifier variant ≢ oid)
+    → (hash : HashAlgorithm) → NamesDigest element hash → ⊥
 unnamed element oid is none hash n = none n.variant (identifier_once element (digest_identifier n.variant) oid (of_identifier element hash n) is)
 
-pub names : (element : DerElement) (oid : List ℕ) (variant : ShaVariant) (hash : HashAlgorithm) → IsOfIdentifier element oid → digest_identifier variant ≡ oid → hash ≡ hash_of variant → NamesDigest element hash
+pub names : (element : DerElement) (oid : List ℕ) (variant : ShaVariant) (hash : HashAlgorithm) → IsOfIdentifier element oid → digest_identifier variant ≡ oid
+    → hash ≡ hash_of variant → NamesDigest element hash
 names element oid variant hash is same named = record {
   variant = variant;
   parameters = is.0;

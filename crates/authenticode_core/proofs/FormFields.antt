@@ -32,14 +32,16 @@ use Rattle.der_core.specs.Facts.Rows.{listed-row}
 use Rattle.key_types.specs.AlgorithmIdentifier.{algorithm_identifier}
 use Rattle.cms_content.specs.SpcAttribute.{spc_attribute}
 use Rattle.authenticode_core.specs.Inside.Form.{AreSpelled}
-use Rattle.authenticode_core.specs.SignedFields.{HasVersion, HasSignedContent, HasIndirectData, IndirectData, IsFirstAlgorithm, IsFirstSigner, indirect_kids, signers_of}
+use Rattle.authenticode_core.specs.SignedFields.{HasVersion, HasSignedContent, HasIndirectData, IndirectData}
+use Rattle.authenticode_core.specs.SignedFields.{IsFirstAlgorithm, IsFirstSigner, indirect_kids, signers_of}
 
 -- ---- the fields are those of a value
 
 inside : (f g : SignedDataElements) → pkcs7_of (signed_data_of f) ≡ pkcs7_of (signed_data_of g) → signed_data_of f ≡ signed_data_of g
 inside f g e = cc
 
-pub fields_of_view : (element : DerElement) (view : SignedView) (is : IsSignedView element view) → data_elements view ≡ signed_data_elements is.value.signed_data
+pub fields_of_view : (element : DerElement) (view : SignedView) (is : IsSignedView element view)
+    → data_elements view ≡ signed_data_elements is.value.signed_data
 fields_of_view element view is =
     let f = data_elements view in
     let g = signed_data_elements is.value.signed_data in
@@ -48,8 +50,10 @@ fields_of_view element view is =
 pub are_spelled : (element : DerElement) (view : SignedView) → IsSignedView element view → AreSpelled (data_elements view)
 are_spelled element view is = (is.value.signed_data, fields_of_view element view is)
 
-pub same_fields_of : (a b : SignedData) → pkcs7_of (signed_data_of (signed_data_elements a)) ≡ pkcs7_of (signed_data_of (signed_data_elements b)) → signed_data_elements a ≡ signed_data_elements b
-same_fields_of a b e = same_data (signed_data_elements a) (signed_data_elements b) (determined_value a) (determined_value b) (inside (signed_data_elements a) (signed_data_elements b) e)
+pub same_fields_of : (a b : SignedData) → pkcs7_of (signed_data_of (signed_data_elements a)) ≡ pkcs7_of (signed_data_of (signed_data_elements b))
+    → signed_data_elements a ≡ signed_data_elements b
+same_fields_of a b e = same_data (signed_data_elements a) (signed_data_elements b) (determined_value a) (determined_value b)
+    (inside (signed_data_elements a) (signed_data_elements b) e)
 
 -- ---- members
 
@@ -57,7 +61,8 @@ pub members_are_listed : (tag : ℕ) (kids : List DerElement) → members_of (So
 members_are_listed tag kids = listed-row kids
 
 -- the first signer is that of a value
-pub signer_is_spelled : (f : SignedDataElements) (first : DerElement) (others : List DerElement) → AreSpelled f → signers_of f ≡ first ∷ others → (value : SignerInfo) × (first ≡ signer_info value)
+pub signer_is_spelled : (f : SignedDataElements) (first : DerElement) (others : List DerElement) → AreSpelled f → signers_of f ≡ first ∷ others
+    → (value : SignerInfo) × (first ≡ signer_info value)
 signer_is_spelled f first others (v, is) e =
     head_of v.signers_infos (sym (members_are_listed 0x31 (map signer_info v.signers_infos)) ∙ sym (ap signers_of is) ∙ e) where
       head_of : (signers : List SignerInfo) → map signer_info signers ≡ first ∷ others → (value : SignerInfo) × (first ≡ signer_info value)
@@ -67,14 +72,16 @@ signer_is_spelled f first others (v, is) e =
 -- ---- the content
 
 -- a content of the type is indirect data
-indirect_value : (content : ContentValue) → kind_of_content content ≡ kinds.IndirectData → (d : IndirectData) × (content_value content ≡ sequence (indirect_kids d))
+indirect_value : (content : ContentValue) → kind_of_content content ≡ kinds.IndirectData
+    → (d : IndirectData) × (content_value content ≡ sequence (indirect_kids d))
 indirect_value (contents.SpcIndirectDataContent c) kind =
     (record { image = spc_attribute c.image; algorithm = algorithm_identifier c.message_digest.oid; digest = c.message_digest.digest }, refl)
 indirect_value (contents.CertificateTrustList list) kind = absurd cc
 indirect_value (contents.Data octets) kind = absurd cc
 indirect_value (contents.Other kept) kind = absurd cc
 
-indirect_option : (kind : ContentKind) (content : Option ContentValue) (element : DerElement) → HasKind kind content → kind ≡ kinds.IndirectData → Some element ≡ option_map content_value content
+indirect_option : (kind : ContentKind) (content : Option ContentValue) (element : DerElement) → HasKind kind content → kind ≡ kinds.IndirectData
+    → Some element ≡ option_map content_value content
     → (d : IndirectData) × (element ≡ sequence (indirect_kids d))
 indirect_option kind None element has named e = absurd cc
 indirect_option kind (Some content) element has named e =
@@ -85,17 +92,21 @@ indirect_option kind (Some content) element has named e =
 identified : (s t : List ℕ) → Primitive 0x06 s ≡ Primitive 0x06 t → s ≡ t
 identified s t e = cc
 
-pub indirect_is_spelled : (f : SignedDataElements) (content_type : List ℕ) (content : DerElement) → AreSpelled f → HasSignedContent f content_type (Some content) → content_type ≡ SPC_INDIRECT_DATA.now
+pub indirect_is_spelled : (f : SignedDataElements) (content_type : List ℕ) (content : DerElement) → AreSpelled f
+    → HasSignedContent f content_type (Some content) → content_type ≡ SPC_INDIRECT_DATA.now
     → (d : IndirectData) × (content ≡ sequence (indirect_kids d))
 indirect_is_spelled f content_type content (v, is) has named =
     let info = v.content_info in
-    let parts = fields_once (Primitive 0x06 content_type) (object_identifier info.content_type) (Some content) (option_map content_value info.content) (sym has ∙ ap (λ (g : SignedDataElements). g.content_info) is) in
-    let oid : identifier_contents info.content_type ≡ SPC_INDIRECT_DATA.now = sym (identified content_type (identifier_contents info.content_type) parts.0) ∙ named in
+    let parts = fields_once (Primitive 0x06 content_type) (object_identifier info.content_type) (Some content) (option_map content_value info.content)
+    (sym has ∙ ap (λ (g : SignedDataElements). g.content_info) is) in
+    let oid : identifier_contents info.content_type ≡ SPC_INDIRECT_DATA.now =
+    sym (identified content_type (identifier_contents info.content_type) parts.0) ∙ named in
     let kind : named_content (identifier_contents info.content_type) ≡ kinds.IndirectData = ap named_content oid in
     indirect_option (named_content (identifier_contents info.content_type)) info.content content info.fits kind parts.1
 
 -- the type and the content, each found on its own
-pub content_is : (f : SignedDataElements) (content_type : List ℕ) (other : DerElement) (content found : Option DerElement) → f.content_info ≡ content_info_of (Primitive 0x06 content_type) content → f.content_info ≡ content_info_of other found
+pub content_is : (f : SignedDataElements) (content_type : List ℕ) (other : DerElement) (content found : Option DerElement)
+    → f.content_info ≡ content_info_of (Primitive 0x06 content_type) content → f.content_info ≡ content_info_of other found
     → HasSignedContent f content_type found
 content_is f content_type other content found p q =
     p ∙ ap (content_info_of (Primitive 0x06 content_type)) (fields_once (Primitive 0x06 content_type) other content found (sym p ∙ q)).1
@@ -131,4 +142,5 @@ algorithm_once f a b p q = heads a b p.0 q.0 (sym p.1 ∙ q.1)
 
 pub signer_once : (f : SignedDataElements) (a b : SignerElements) → IsFirstSigner f a → IsFirstSigner f b → a ≡ b
 signer_once f a b p q =
-    p.is ∙ same_signer (signer_elements p.value) (signer_elements q.value) (determined_signer p.value) (determined_signer q.value) (heads (signer_info p.value) (signer_info q.value) p.others q.others (sym p.first ∙ q.first)) ∙ sym q.is
+    p.is ∙ same_signer (signer_elements p.value) (signer_elements q.value) (determined_signer p.value) (determined_signer q.value)
+    (heads (signer_info p.value) (signer_info q.value) p.others q.others (sym p.first ∙ q.first)) ∙ sym q.is

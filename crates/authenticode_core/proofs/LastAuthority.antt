@@ -31,13 +31,22 @@ unknown_is_none c unknown name (inr (root, is)) = unknown true root.0
 abbrev IsLastOr : DerElement → List CertificateElements → DerElement → Type 0
 IsLastOr name certificates after = IsLastAuthority certificates after ⊎ (NoneIsAuthority certificates × (after ≡ name))
 
-in_front : (name next after : DerElement) (c : CertificateElements) (others : List CertificateElements) → IsNextName name c next → IsLastOr next others after → IsLastOr name (c ∷ others) after
-in_front name next after c others step (inl last) = inl (record { before = c ∷ last.before; c = last.c; after = last.after; are = ap (λ (cs : List CertificateElements). c ∷ cs) last.are; named = last.named; last = last.last })
+in_front : (name next after : DerElement) (c : CertificateElements) (others : List CertificateElements) → IsNextName name c next → IsLastOr next others after
+    → IsLastOr name (c ∷ others) after
+in_front name next after c others step (inl last) = inl (record {
+  before = c ∷ last.before;
+  c = last.c;
+  after = last.after;
+  are = ap (λ (cs : List CertificateElements). c ∷ cs) last.are;
+  named = last.named;
+  last = last.last;
+})
 in_front name next after c others (inl named) (inr (none, same)) =
     inl (record { before = []; c = c; after = others; are = refl; named = subst (λ (n : DerElement). HasAuthorityName c n) (sym same) named; last = none })
 in_front name next after c others (inr (no_authority, is)) (inr (none, same)) = inr ((no_authority, none), same ∙ is)
 
-pub after_is : (bag : List CertificateElements) (name after : DerElement) (places : List ℕ) → IsNameAfter bag name places after → (certificates : List CertificateElements) × AreAt bag places certificates × IsLastOr name certificates after
+pub after_is : (bag : List CertificateElements) (name after : DerElement) (places : List ℕ) → IsNameAfter bag name places after
+    → (certificates : List CertificateElements) × AreAt bag places certificates × IsLastOr name certificates after
 after_is bag name after [] same = ([], refl, inr (tt, same))
 after_is bag name after (place ∷ places) walked =
     let others = after_is bag walked.1 after places walked.4 in
@@ -53,15 +62,19 @@ pub record NamedSoFar (bag : List CertificateElements) (before : DerElement) (pl
   pub is : octets ≡ encoding so_far
   pub enough : (after : DerElement) → IsNameAfter bag so_far behind after → IsNameAfter bag before places after
 
-pub none_named : (bag : List CertificateElements) (before : DerElement) (places : List ℕ) (source : Source) (octets : List ℕ) → GivesPlaces source bag places → octets ≡ encoding before → NamedSoFar bag before places source octets
+pub none_named : (bag : List CertificateElements) (before : DerElement) (places : List ℕ) (source : Source) (octets : List ℕ) → GivesPlaces source bag places
+    → octets ≡ encoding before → NamedSoFar bag before places source octets
 none_named bag before places source octets gives is = record { behind = places; gives = gives; so_far = before; is = is; enough = λ after walked. walked }
 
-one_more : (bag : List CertificateElements) (so_far next after : DerElement) (all : List ℕ) (place : ℕ) (c : CertificateElements) (behind : List ℕ) → IsFirstOf bag all place c behind → IsNextName so_far c next → IsNameAfter bag next behind after → IsNameAfter bag so_far all after
+one_more : (bag : List CertificateElements) (so_far next after : DerElement) (all : List ℕ) (place : ℕ) (c : CertificateElements) (behind : List ℕ)
+    → IsFirstOf bag all place c behind → IsNextName so_far c next → IsNameAfter bag next behind after → IsNameAfter bag so_far all after
 one_more bag so_far next after all place c behind first step walked =
     subst (λ (ps : List ℕ). IsNameAfter bag so_far ps after) (sym first.are) (c, next, first.stands, step, walked)
 
-pub named_on : (bag : List CertificateElements) (before : DerElement) (places : List ℕ) (source new : Source) (octets octets' : List ℕ) (so_far : NamedSoFar bag before places source octets) (place : ℕ) (c : CertificateElements) (behind : List ℕ)
-    → IsFirstOf bag so_far.behind place c behind → GivesPlaces new bag behind → (next : DerElement) → IsNextName so_far.so_far c next → octets' ≡ encoding next → NamedSoFar bag before places new octets'
+pub named_on : (bag : List CertificateElements) (before : DerElement) (places : List ℕ) (source new : Source) (octets octets' : List ℕ)
+    (so_far : NamedSoFar bag before places source octets) (place : ℕ) (c : CertificateElements) (behind : List ℕ)
+    → IsFirstOf bag so_far.behind place c behind → GivesPlaces new bag behind → (next : DerElement) → IsNextName so_far.so_far c next → octets' ≡ encoding next
+    → NamedSoFar bag before places new octets'
 named_on bag before places source new octets octets' so_far place c behind first gives next step is = record {
   behind = behind;
   gives = gives;
@@ -70,14 +83,16 @@ named_on bag before places source new octets octets' so_far place c behind first
   enough = λ after walked. so_far.enough after (one_more bag so_far.so_far next after so_far.behind place c behind first step walked);
 }
 
-pub named_all : (bag : List CertificateElements) (before : DerElement) (places : List ℕ) (source : Source) (octets : List ℕ) (so_far : NamedSoFar bag before places source octets) → so_far.behind ≡ []
+pub named_all : (bag : List CertificateElements) (before : DerElement) (places : List ℕ) (source : Source) (octets : List ℕ)
+    (so_far : NamedSoFar bag before places source octets) → so_far.behind ≡ []
     → (after : DerElement) × IsNameAfter bag before places after × (octets ≡ encoding after)
 named_all bag before places source octets so_far none =
     (so_far.so_far, so_far.enough so_far.so_far (subst (λ (ps : List ℕ). IsNameAfter bag so_far.so_far ps so_far.so_far) (sym none) refl), so_far.is)
 
 -- ---- the first certificate, and those behind it
 
-pub name_of_all : (bag : List CertificateElements) (places : List ℕ) (place : ℕ) (c : CertificateElements) (behind : List ℕ) (after : DerElement) → IsFirstOf bag places place c behind → IsNameAfter bag c.tbs.issuer behind after → IsNameAt bag places after
+pub name_of_all : (bag : List CertificateElements) (places : List ℕ) (place : ℕ) (c : CertificateElements) (behind : List ℕ) (after : DerElement)
+    → IsFirstOf bag places place c behind → IsNameAfter bag c.tbs.issuer behind after → IsNameAt bag places after
 name_of_all bag places place c behind after first walked =
     let others = after_is bag c.tbs.issuer after behind walked in
     record {

@@ -12,7 +12,8 @@ use Rattle.x509_types.specs.CertificateElements.{CertificateElements}
 use Rattle.authenticode_core.specs.AuthorityName.{IsNameAt}
 use Rattle.authenticode_core.specs.Excuses.{HasBadStamp, HasReason, IsExcused, IsStamped, IsUnlistedStamp, places_from, stamp_rules}
 use Rattle.authenticode_core.specs.ListRules.{HasUntrustedCa, IsOffList, IsSignerListed, IsTrustedCa, ca_rules}
-use Rattle.authenticode_core.specs.SignerRules.{IsBadlyStamped, IsSignerVouched, IsValidAndVouched, IsUnbegun, IsUnexcused, IsUnvouched, IsValidOrExcusable, LastsOrIsExcused, signer_rules}
+use Rattle.authenticode_core.specs.SignerRules.{IsBadlyStamped, IsSignerVouched, IsValidAndVouched, IsUnbegun, IsUnexcused}
+use Rattle.authenticode_core.specs.SignerRules.{IsUnvouched, IsValidOrExcusable, LastsOrIsExcused, signer_rules}
 use Rattle.authenticode_core.specs.TrustList.{IsOnList, name_rules}
 use Rattle.authenticode_core.specs.Trusted.{IsAnswer, IsTrusted, asked, basic_rules, policy_rules}
 use Rattle.authenticode_core.specs.declared.accepted.Accepted.{Accepted}
@@ -129,9 +130,11 @@ module _ (judge : Judge) (p : Policy) (f : SignedDataElements) where
 
   -- ---- rules
 
-  unlisted_stamp : (x y : Lent) → AreSame x y → (bag : List CertificateElements) (e : AuthenticodeError) → IsUnlistedStamp (under p x) bag e → IsUnlistedStamp (under p y) bag e
+  unlisted_stamp : (x y : Lent) → AreSame x y → (bag : List CertificateElements) (e : AuthenticodeError) → IsUnlistedStamp (under p x) bag e
+      → IsUnlistedStamp (under p y) bag e
   unlisted_stamp x y same bag e h =
-      subst (λ (o : Option CertificateTrustList). (list : CertificateTrustList) × (o ≡ Some list) × (ca : DerElement) × IsNameAt bag (places_from 0 (length bag)) ca × IsFirstBroken (name_rules list p.now ca) e) same h
+      subst (λ (o : Option CertificateTrustList). (list : CertificateTrustList) × (o ≡ Some list) × (ca : DerElement)
+      × IsNameAt bag (places_from 0 (length bag)) ca × IsFirstBroken (name_rules list p.now ca) e) same h
 
   bad_stamp : (x y : Lent) → AreSame x y → (bag : List CertificateElements) (c : CertificateElements) (e : AuthenticodeError)
       → HasBadStamp judge (under p x) f bag c e → HasBadStamp judge (under p y) f bag c e
@@ -147,10 +150,29 @@ module _ (judge : Judge) (p : Policy) (f : SignedDataElements) where
   }
 
   unbegun : (x y : Lent) (e : AuthenticodeError) → IsUnbegun (under p x) f e → IsUnbegun (under p y) f e
-  unbegun x y e h = record { bag = h.bag; place = h.place; signer = h.signer; is = h.is; unexpired = h.unexpired; cause = h.cause; outside = h.outside; returned = h.returned }
+  unbegun x y e h = record {
+    bag = h.bag;
+    place = h.place;
+    signer = h.signer;
+    is = h.is;
+    unexpired = h.unexpired;
+    cause = h.cause;
+    outside = h.outside;
+    returned = h.returned;
+  }
 
   unexcused : (x y : Lent) (e : AuthenticodeError) → IsUnexcused (under p x) f e → IsUnexcused (under p y) f e
-  unexcused x y e h = record { bag = h.bag; place = h.place; signer = h.signer; is = h.is; expired = h.expired; unexcused = h.unexcused; cause = h.cause; outside = h.outside; returned = h.returned }
+  unexcused x y e h = record {
+    bag = h.bag;
+    place = h.place;
+    signer = h.signer;
+    is = h.is;
+    expired = h.expired;
+    unexcused = h.unexcused;
+    cause = h.cause;
+    outside = h.outside;
+    returned = h.returned;
+  }
 
   badly_stamped : (x y : Lent) → AreSame x y → (e : AuthenticodeError) → IsBadlyStamped judge (under p x) f e → IsBadlyStamped judge (under p y) f e
   badly_stamped x y same e h = record {
@@ -227,7 +249,8 @@ module _ (judge : Judge) (p : Policy) (f : SignedDataElements) where
       (asked_alike p.against_list (ca_rules (under p x) f) (ca_rules (under p y) f) (cas_alike x y same)))
 
 -- what is answered under the one is answered under the other
-pub answer_under : (judge : Judge) (p : Policy) (x y : Option (Bor CertificateTrustList)) → option_copied x ≡ option_copied y → (octets : List ℕ) (r : Result Accepted CheckError)
+pub answer_under : (judge : Judge) (p : Policy) (x y : Option (Bor CertificateTrustList)) → option_copied x ≡ option_copied y
+    → (octets : List ℕ) (r : Result Accepted CheckError)
     → IsAnswer judge (under p x) octets r → IsAnswer judge (under p y) octets r
 answer_under judge p x y same octets (Ok accepted) h = (h.0, h.1, trusted judge p h.0 x y same accepted h.2)
 answer_under judge p x y same octets (Err (Win e)) h = h

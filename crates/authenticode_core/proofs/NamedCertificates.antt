@@ -34,22 +34,26 @@ use Rattle.authenticode_core.specs.declared.error.AuthenticodeError.TheVariants 
 pub sid_is : (f : SignedDataElements) (g : SignerElements) → (first : IsFirstSigner f g) → g.sid ≡ signer_identifier first.value.sid
 sid_is f g first = ap (λ (x : SignerElements). x.sid) first.is
 
-by_key : (element : DerElement) (sid : SignerIdentifier) → element ≡ signer_identifier sid → ((value : IssuerAndSerialNumber) → element ≢ issuer_and_serial_number value) → (octets : List ℕ) × (element ≡ Primitive 0x80 octets)
+by_key : (element : DerElement) (sid : SignerIdentifier) → element ≡ signer_identifier sid
+    → ((value : IssuerAndSerialNumber) → element ≢ issuer_and_serial_number value) → (octets : List ℕ) × (element ≡ Primitive 0x80 octets)
 by_key element (named.IssuerAndSerialNumber value) is none = absurd (none value is)
 by_key element (named.SubjectKeyIdentifier octets) is none = (octets, is)
 
-pub is_named_by_key : (f : SignedDataElements) (g : SignerElements) → IsFirstSigner f g → ((value : IssuerAndSerialNumber) → g.sid ≢ issuer_and_serial_number value) → IsNamedByKey g errors.IncorrectSignerIdentifier
+pub is_named_by_key : (f : SignedDataElements) (g : SignerElements) → IsFirstSigner f g
+    → ((value : IssuerAndSerialNumber) → g.sid ≢ issuer_and_serial_number value) → IsNamedByKey g errors.IncorrectSignerIdentifier
 is_named_by_key f g first none =
     let key = by_key g.sid first.value.sid (sid_is f g first) none in
     (key.0, key.1, refl)
 
-pub named_by_key : (f : SignedDataElements) (g : SignerElements) → IsFirstSigner f g → ((value : IssuerAndSerialNumber) → g.sid ≢ issuer_and_serial_number value) → RefusesAuthenticodeBy (IsNamedByKey g ∷ HasNoCertificate f g ∷ []) errors.IncorrectSignerIdentifier
+pub named_by_key : (f : SignedDataElements) (g : SignerElements) → IsFirstSigner f g → ((value : IssuerAndSerialNumber)
+    → g.sid ≢ issuer_and_serial_number value) → RefusesAuthenticodeBy (IsNamedByKey g ∷ HasNoCertificate f g ∷ []) errors.IncorrectSignerIdentifier
 named_by_key f g first none = inl (inl (is_named_by_key f g first none))
 
 key_or_name : (octets : List ℕ) (kids : List DerElement) → Primitive 0x80 octets ≡ sequence kids → ⊥
 key_or_name octets kids e = absurd cc
 
-by_name : (element : DerElement) (kids : List DerElement) (sid : SignerIdentifier) → element ≡ signer_identifier sid → element ≡ sequence kids → (value : IssuerAndSerialNumber) × (element ≡ issuer_and_serial_number value)
+by_name : (element : DerElement) (kids : List DerElement) (sid : SignerIdentifier) → element ≡ signer_identifier sid → element ≡ sequence kids
+    → (value : IssuerAndSerialNumber) × (element ≡ issuer_and_serial_number value)
 by_name element kids (named.IssuerAndSerialNumber value) is lent = (value, is)
 by_name element kids (named.SubjectKeyIdentifier octets) is lent = absurd (key_or_name octets kids (sym is ∙ lent))
 
@@ -57,20 +61,24 @@ heads : (x y s t : DerElement) → sequence (x ∷ s ∷ []) ≡ sequence (y ∷
 heads x y s t e = cc
 
 -- the borrowed name is the one that is made of its octets
-same_name : (element lent : DerElement) (issuer serial_number : List ℕ) (made : DirectoryName) (value : IssuerAndSerialNumber) → element ≡ issuer_and_serial_number value → element ≡ sequence (lent ∷ Primitive 0x02 serial_number ∷ [])
+same_name : (element lent : DerElement) (issuer serial_number : List ℕ) (made : DirectoryName) (value : IssuerAndSerialNumber)
+    → element ≡ issuer_and_serial_number value → element ≡ sequence (lent ∷ Primitive 0x02 serial_number ∷ [])
     → issuer ≡ encoding lent → issuer ≡ encoding (name made.name) → lent ≡ name made.name
 same_name element lent issuer serial_number made value is holds octets returned =
     let head = heads lent (name value.issuer) (Primitive 0x02 serial_number) (integer value.serial_number) (sym holds ∙ is) in
-    head ∙ formed_encoding_once (name value.issuer) (name made.name) (names.formed value.issuer) (names.formed made.name) (ap encoding (sym head) ∙ sym octets ∙ returned)
+    head ∙ formed_encoding_once (name value.issuer) (name made.name) (names.formed value.issuer) (names.formed made.name)
+    (ap encoding (sym head) ∙ sym octets ∙ returned)
 
 -- ---- no certificate
 
-pub returns_name : (issuer serial_number : List ℕ) (made : DirectoryName) (number : IntegerAsn1) → IsWithin (λ (element : DerElement) (m : DirectoryName). element ≡ name m.name) issuer made → integer_contents number ≡ serial_number
+pub returns_name : (issuer serial_number : List ℕ) (made : DirectoryName) (number : IntegerAsn1)
+    → IsWithin (λ (element : DerElement) (m : DirectoryName). element ≡ name m.name) issuer made → integer_contents number ≡ serial_number
     → ReportsName issuer serial_number (errors.NoCertificatesAssociatedWithIssuerAndSerialNumber made number)
 returns_name issuer serial_number made number within is =
     record { made = made; number = number; issuer_is = within.encoded ∙ ap encoding within.spelled; number_is = is; returned = refl }
 
-has_no_certificate : (f : SignedDataElements) (g : SignerElements) (bag : List CertificateElements) (issuer serial_number : List ℕ) (e : AuthenticodeError) → IsFirstSigner f g → IsBagOf f bag → HasNoSigner (signers_of f) bag
+has_no_certificate : (f : SignedDataElements) (g : SignerElements) (bag : List CertificateElements) (issuer serial_number : List ℕ) (e : AuthenticodeError)
+    → IsFirstSigner f g → IsBagOf f bag → HasNoSigner (signers_of f) bag
     → LendsNamed g.sid issuer serial_number → ReportsName issuer serial_number e → HasNoCertificate f g e
 has_no_certificate f g bag issuer serial_number e first is none lent returns =
     let kids = lent.name ∷ Primitive 0x02 serial_number ∷ [] in
@@ -88,8 +96,10 @@ has_no_certificate f g bag issuer serial_number e first is none lent returns =
       returned = returns.returned;
     }
 
-pub no_certificate : (f : SignedDataElements) (g : SignerElements) (bag : List CertificateElements) (issuer serial_number : List ℕ) (e : AuthenticodeError) → IsFirstSigner f g → IsBagOf f bag → HasNoSigner (signers_of f) bag
-    → LendsNamed g.sid issuer serial_number → ReportsName issuer serial_number e ⊎ (e ≡ errors.Memory) → RefusesAuthenticodeBy (IsNamedByKey g ∷ HasNoCertificate f g ∷ []) e
+pub no_certificate : (f : SignedDataElements) (g : SignerElements) (bag : List CertificateElements) (issuer serial_number : List ℕ) (e : AuthenticodeError)
+    → IsFirstSigner f g → IsBagOf f bag → HasNoSigner (signers_of f) bag
+    → LendsNamed g.sid issuer serial_number → ReportsName issuer serial_number e ⊎ (e ≡ errors.Memory)
+    → RefusesAuthenticodeBy (IsNamedByKey g ∷ HasNoCertificate f g ∷ []) e
 no_certificate f g bag issuer serial_number e first is none lent (inl returns) =
     let met : IsMet (IsNamedByKey g) = λ x broken. key_or_name broken.0 (lent.name ∷ Primitive 0x02 serial_number ∷ []) (sym broken.1 ∙ lent.is) in
     inl (inr (met, inl (has_no_certificate f g bag issuer serial_number e first is none lent returns)))
@@ -98,5 +108,6 @@ no_certificate f g bag issuer serial_number e first is none lent (inr memory) = 
 -- ---- the bag
 
 -- a bag of the members before a cursor is that of the signed data
-pub bag_of : (f : SignedDataElements) (left : List DerElement) (bag : List CertificateElements) → left ≡ members_of f.certificates → IsBag left bag → IsBagOf f bag
+pub bag_of : (f : SignedDataElements) (left : List DerElement) (bag : List CertificateElements) → left ≡ members_of f.certificates → IsBag left bag
+    → IsBagOf f bag
 bag_of f left bag same is = subst (λ (members : List DerElement). IsBag members bag) same is

@@ -20,7 +20,8 @@ one_list octets a b x y =
     ap (λ (s : Pkcs7Certificate). record { signed = s }) signed
 
 -- octets of a list are refused only when out of memory
-pub for_memory : (octets : List ℕ) (list : CertificateTrustList) (source : DerError) → IsTrustList octets list → RefusesOctets IsSignedData octets source → source ≡ der.Memory
+pub for_memory : (octets : List ℕ) (list : CertificateTrustList) (source : DerError) → IsTrustList octets list → RefusesOctets IsSignedData octets source
+    → source ≡ der.Memory
 for_memory octets list (der.Malformed m) is refused = absurd (no_fault_where_whole octets is.element m.at m.fault is.der is.encoded refused)
 for_memory octets list der.Shape is refused =
     let same = whole_once octets refused.element is.element refused.der is.der refused.encoded is.encoded in

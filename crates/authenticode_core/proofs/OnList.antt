@@ -14,7 +14,8 @@ use Rattle.cms_content.specs.Listing.{listing_rules}
 use Rattle.cms_content.specs.declared.listing.error.ListingError.{ListingError}
 use Rattle.authenticode_core.specs.ContentRefusal.{of_ctl}
 use Rattle.authenticode_core.specs.Inside.ListContent.{AreEntriesIn, IsOtherContent}
-use Rattle.authenticode_core.specs.TrustList.{HasEntries, HasNoContent, HasOtherContent, IsNoList, IsOnList, IsUnlisted, content_of, content_rules, name_rules, of_listing}
+use Rattle.authenticode_core.specs.TrustList.{HasEntries, HasNoContent, HasOtherContent, IsNoList, IsOnList}
+use Rattle.authenticode_core.specs.TrustList.{IsUnlisted, content_of, content_rules, name_rules, of_listing}
 use Rattle.authenticode_core.specs.declared.ctl.CertificateTrustList.{CertificateTrustList}
 use Rattle.authenticode_core.specs.declared.ctl_error.CtlError.{CtlError}
 use Rattle.authenticode_core.specs.declared.ctl_error.CtlError.TheVariants as ctl
@@ -32,8 +33,10 @@ one_content a b e = cc
 no_content : (o : Option ContentValue) (a : ContentValue) → o ≡ Some a → o ≡ None → ⊥
 no_content o a some none = absurd (cc (some, none))
 
-pub entries_or_not : {X : Type 0} (now : X → List CTLEntry) (list : CertificateTrustList) (content : ContentValue) (r : Result X CtlError) → content_of list ≡ Some content
-    → MatchResult r (λ x. AreEntriesIn content (now x)) (λ e. IsOtherContent content × (e ≡ ctl.IncorrectContentValue)) → MatchResult r (λ x. HasEntries list (now x)) (IsFirstBroken (content_rules list))
+pub entries_or_not : {X : Type 0} (now : X → List CTLEntry) (list : CertificateTrustList) (content : ContentValue) (r : Result X CtlError)
+    → content_of list ≡ Some content
+    → MatchResult r (λ x. AreEntriesIn content (now x)) (λ e. IsOtherContent content × (e ≡ ctl.IncorrectContentValue))
+    → MatchResult r (λ x. HasEntries list (now x)) (IsFirstBroken (content_rules list))
 entries_or_not now list content (Ok x) is are = (are.0, is ∙ ap Some are.1, are.2)
 entries_or_not now list content (Err e) is other = inr ((λ a broken. no_content (content_of list) content is broken.0), inl (content, is, other.0, other.1))
 
@@ -75,7 +78,8 @@ module _ (list : CertificateTrustList) where
 
     listed_met : IsOnList list now name → IsMet (IsUnlisted list now name)
     listed_met on = λ e broken.
-        let there = subst (λ (entries : List CTLEntry). IsFirstBroken (listing_rules entries (encoding name) now) broken.2) (entries_once broken.0 on.0 broken.1 on.1) broken.3 in
+        let there = subst (λ (entries : List CTLEntry). IsFirstBroken (listing_rules entries (encoding name) now) broken.2)
+        (entries_once broken.0 on.0 broken.1 on.1) broken.3 in
         listed_unbroken on.0 (encoding name) now broken.2 on.2 there
 
     pub on_list_met : IsOnList list now name → AreMet (name_rules list now name)
@@ -92,5 +96,6 @@ module _ (list : CertificateTrustList) where
     pub no_list : (e : CtlError) → IsFirstBroken (content_rules list) e → IsFirstBroken (name_rules list now name) (of_ctl e)
     no_list e broken = inl (e, broken, returned_so e broken)
 
-    pub not_listed : (entries : List CTLEntry) (e : ListingError) → HasEntries list entries → IsFirstBroken (listing_rules entries (encoding name) now) e → IsFirstBroken (name_rules list now name) (of_listing e)
+    pub not_listed : (entries : List CTLEntry) (e : ListingError) → HasEntries list entries → IsFirstBroken (listing_rules entries (encoding name) now) e
+        → IsFirstBroken (name_rules list now name) (of_listing e)
     not_listed entries e has broken = inr (list_met entries has, inl (entries, has, e, broken, refl))

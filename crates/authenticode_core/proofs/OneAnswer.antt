@@ -46,7 +46,8 @@ FaultsExclude = (octets : List ℕ) (p : ℕ) (e : DerFault) → IsFirstFault oc
 
 one_first : (octets : List ℕ) (a b : DerElement) (m n : ℕ) → IsFirst octets a m → IsFirst octets b n → (a ≡ b) × (m ≡ n)
 one_first octets a b m n first second =
-    let same = fronts a b (drop m octets) (drop n octets) first.der.formed second.der.formed first.der.short second.der.short (split first ∙ sym (split second)) in
+    let same =
+    fronts a b (drop m octets) (drop n octets) first.der.formed second.der.formed first.der.short second.der.short (split first ∙ sym (split second)) in
     (same.0, first.many ∙ ap (λ t. length (encoding t)) same.0 ∙ sym second.many) where
       split : {t : DerElement} {k : ℕ} → IsFirst octets t k → encoding t ++ drop k octets ≡ octets
       split {t} {k} h = ap (λ front. front ++ drop k octets) (sym h.front) ∙ take-append-drop k octets
@@ -107,21 +108,25 @@ shape_is_answer judge policy octets (Authenticode e) (inl p) = inl p
 shape_is_answer judge policy octets (Authenticode e) (inr p) = inr (p.0, p.1, shape_in_policy judge policy p.0 e p.2)
 shape_is_answer judge policy octets Memory p = absurd p
 
-rules_returned : (judge : Judge) (policy : Policy) (octets : List ℕ) (f : SignedDataElements) (e : AuthenticodeError) → HasSignedData octets f → RefusesAuthenticodeBy (policy_rules judge policy f) e → (of_content e ≡ Authenticode e) ⊎ (e ≡ errors.Memory)
+rules_returned : (judge : Judge) (policy : Policy) (octets : List ℕ) (f : SignedDataElements) (e : AuthenticodeError) → HasSignedData octets f
+    → RefusesAuthenticodeBy (policy_rules judge policy f) e → (of_content e ≡ Authenticode e) ⊎ (e ≡ errors.Memory)
     → IsAnswer judge policy octets (Err (of_content e))
 rules_returned judge policy octets f e has (inl broken) (inl returned) = rw returned (inr (f, has, broken))
 rules_returned judge policy octets f e has p (inr memory) = rw memory tt
 rules_returned judge policy octets f e has (inr memory) returned = rw memory tt
 
 -- by the rules, and out of memory
-pub refusal_is_answer : (judge : Judge) (policy : Policy) (octets : List ℕ) (f : SignedDataElements) (e : AuthenticodeError) → HasSignedData octets f → RefusesAuthenticodeBy (policy_rules judge policy f) e → IsAnswer judge policy octets (Err (of_content e))
+pub refusal_is_answer : (judge : Judge) (policy : Policy) (octets : List ℕ) (f : SignedDataElements) (e : AuthenticodeError) → HasSignedData octets f
+    → RefusesAuthenticodeBy (policy_rules judge policy f) e → IsAnswer judge policy octets (Err (of_content e))
 refusal_is_answer judge policy octets f e has p = rules_returned judge policy octets f e has p (returned_or_memory e)
 
 -- a refusal of the form is never out of memory
-shape_returned_so : (policy : Policy) (f : SignedDataElements) (e : AuthenticodeError) (b : Bool) → IsFirstBroken (asked b (shape_rules f policy.file_hash)) e → (of_content e ≡ Authenticode e) ⊎ (e ≡ errors.Memory) → of_content e ≡ Authenticode e
+shape_returned_so : (policy : Policy) (f : SignedDataElements) (e : AuthenticodeError) (b : Bool) → IsFirstBroken (asked b (shape_rules f policy.file_hash)) e
+    → (of_content e ≡ Authenticode e) ⊎ (e ≡ errors.Memory) → of_content e ≡ Authenticode e
 shape_returned_so policy f e b broken (inl returned) = returned
 shape_returned_so policy f e true broken (inr memory) =
-    absurd (none_returns (shape_rules f policy.file_hash) errors.Memory (shape_returns_no_memory f policy.file_hash) (subst (λ (x : AuthenticodeError). IsFirstBroken (shape_rules f policy.file_hash) x) memory broken))
+    absurd (none_returns (shape_rules f policy.file_hash) errors.Memory (shape_returns_no_memory f policy.file_hash)
+    (subst (λ (x : AuthenticodeError). IsFirstBroken (shape_rules f policy.file_hash) x) memory broken))
 shape_returned_so policy f e false broken (inr memory) = absurd broken
 
 module _ (at_most_one : FaultsAreOne) (exclude : FaultsExclude) where
@@ -166,7 +171,8 @@ module _ (at_most_one : FaultsAreOne) (exclude : FaultsExclude) where
   one_unread_signature : (octets : List ℕ) (a b : AuthenticodeError) → IsUnreadSignature octets a → IsUnreadSignature octets b → a ≡ b
   one_unread_signature octets a b p q =
       let same = same_certificate octets p.certificate q.certificate p.named q.named in
-      p.returned ∙ ap (λ (source : DerError). errors.CertError (Asn1Deserialization Pkcs7 source)) (one_source q.certificate p.source q.source (subst (λ (c : List ℕ). IsNoSignedData c p.source) same p.cause) q.cause) ∙ sym q.returned
+      p.returned ∙ ap (λ (source : DerError). errors.CertError (Asn1Deserialization Pkcs7 source))
+      (one_source q.certificate p.source q.source (subst (λ (c : List ℕ). IsNoSignedData c p.source) same p.cause) q.cause) ∙ sym q.returned
 
   signed_data_is_read : (octets : List ℕ) (e : AuthenticodeError) (f : SignedDataElements) → IsUnreadSignature octets e → HasSignedData octets f → ⊥
   signed_data_is_read octets e f p q =
@@ -176,15 +182,18 @@ module _ (at_most_one : FaultsAreOne) (exclude : FaultsExclude) where
 
   -- ---- refusals of the form
 
-  one_shape_cause : (policy : Policy) (octets : List ℕ) (a b : AuthenticodeError) → RefusesForm policy octets (Authenticode a) → RefusesForm policy octets (Authenticode b) → a ≡ b
+  one_shape_cause : (policy : Policy) (octets : List ℕ) (a b : AuthenticodeError) → RefusesForm policy octets (Authenticode a)
+      → RefusesForm policy octets (Authenticode b) → a ≡ b
   one_shape_cause policy octets a b (inl p) (inl q) = one_unread_signature octets a b p q
   one_shape_cause policy octets a b (inl p) (inr q) = absurd (signed_data_is_read octets a q.0 p q.1)
   one_shape_cause policy octets a b (inr p) (inl q) = absurd (signed_data_is_read octets b p.0 q p.1)
   one_shape_cause policy octets a b (inr p) (inr q) =
-      one_broken (asked policy.basic (shape_rules q.0 policy.file_hash)) (asked_returned policy.basic (shape_rules q.0 policy.file_hash) (shape_returned q.0 policy.file_hash)) a b
+      one_broken (asked policy.basic (shape_rules q.0 policy.file_hash))
+      (asked_returned policy.basic (shape_rules q.0 policy.file_hash) (shape_returned q.0 policy.file_hash)) a b
       (subst (λ (f : SignedDataElements). IsFirstBroken (asked policy.basic (shape_rules f policy.file_hash)) a) (one_data octets p.0 q.0 p.1 q.1) p.2) q.2
 
-  unnamed_shape : (policy : Policy) (octets : List ℕ) (header : WinCertificateError) (e : AuthenticodeError) → contents_in octets ≡ Err header → RefusesForm policy octets (Authenticode e) → ⊥
+  unnamed_shape : (policy : Policy) (octets : List ℕ) (header : WinCertificateError) (e : AuthenticodeError) → contents_in octets ≡ Err header
+      → RefusesForm policy octets (Authenticode e) → ⊥
   unnamed_shape policy octets header e refused (inl p) = named_once octets p.certificate header p.named refused
   unnamed_shape policy octets header e refused (inr p) = named_once octets p.1.certificate header p.1.named refused
 
@@ -204,7 +213,8 @@ module _ (at_most_one : FaultsAreOne) (exclude : FaultsExclude) where
   refused_there policy octets f (Win e) has p = absurd (named_once octets has.certificate e has.named p)
   refused_there policy octets f (Authenticode e) has (inl p) = absurd (signed_data_is_read octets e f p has)
   refused_there policy octets f (Authenticode e) has (inr p) =
-      let broken = subst (λ (x : SignedDataElements). IsFirstBroken (asked policy.basic (shape_rules x policy.file_hash)) e) (one_data octets p.0 f p.1 has) p.2 in
+      let broken =
+      subst (λ (x : SignedDataElements). IsFirstBroken (asked policy.basic (shape_rules x policy.file_hash)) e) (one_data octets p.0 f p.1 has) p.2 in
       (e, shape_returned_so policy f e policy.basic broken (returned_or_memory e), broken)
   refused_there policy octets f Memory has p = absurd p
 
@@ -214,23 +224,29 @@ module _ (at_most_one : FaultsAreOne) (exclude : FaultsExclude) where
   Causes judge policy octets e =
       IsUnreadSignature octets e ⊎ ((f : SignedDataElements) × HasSignedData octets f × IsFirstBroken (policy_rules judge policy f) e)
 
-  one_cause : (judge : Judge) (policy : Policy) (octets : List ℕ) (a b : AuthenticodeError) → Causes judge policy octets a → Causes judge policy octets b → a ≡ b
+  one_cause : (judge : Judge) (policy : Policy) (octets : List ℕ) (a b : AuthenticodeError) → Causes judge policy octets a
+      → Causes judge policy octets b → a ≡ b
   one_cause judge policy octets a b (inl p) (inl q) = one_unread_signature octets a b p q
   one_cause judge policy octets a b (inl p) (inr q) = absurd (signed_data_is_read octets a q.0 p q.1)
   one_cause judge policy octets a b (inr p) (inl q) = absurd (signed_data_is_read octets b p.0 q p.1)
   one_cause judge policy octets a b (inr p) (inr q) =
-      one_broken (policy_rules judge policy q.0) (policy_returned judge policy q.0) a b (subst (λ (f : SignedDataElements). IsFirstBroken (policy_rules judge policy f) a) (one_data octets p.0 q.0 p.1 q.1) p.2) q.2
+      one_broken (policy_rules judge policy q.0) (policy_returned judge policy q.0) a b
+      (subst (λ (f : SignedDataElements). IsFirstBroken (policy_rules judge policy f) a) (one_data octets p.0 q.0 p.1 q.1) p.2) q.2
 
-  no_cause : (judge : Judge) (policy : Policy) (octets : List ℕ) (f : SignedDataElements) (accepted : Accepted) (e : AuthenticodeError) → HasSignedData octets f → IsTrusted judge policy f accepted → Causes judge policy octets e → ⊥
+  no_cause : (judge : Judge) (policy : Policy) (octets : List ℕ) (f : SignedDataElements) (accepted : Accepted) (e : AuthenticodeError) → HasSignedData octets f
+      → IsTrusted judge policy f accepted → Causes judge policy octets e → ⊥
   no_cause judge policy octets f accepted e has t (inl p) = signed_data_is_read octets e f p has
   no_cause judge policy octets f accepted e has t (inr p) =
-      trusted_unbroken judge policy f accepted e t (subst (λ (x : SignedDataElements). IsFirstBroken (policy_rules judge policy x) e) (one_data octets p.0 f p.1 has) p.2)
+      trusted_unbroken judge policy f accepted e t
+      (subst (λ (x : SignedDataElements). IsFirstBroken (policy_rules judge policy x) e) (one_data octets p.0 f p.1 has) p.2)
 
-  unnamed : (judge : Judge) (policy : Policy) (octets : List ℕ) (header : WinCertificateError) (e : AuthenticodeError) → contents_in octets ≡ Err header → Causes judge policy octets e → ⊥
+  unnamed : (judge : Judge) (policy : Policy) (octets : List ℕ) (header : WinCertificateError) (e : AuthenticodeError) → contents_in octets ≡ Err header
+      → Causes judge policy octets e → ⊥
   unnamed judge policy octets header e refused (inl p) = named_once octets p.certificate header p.named refused
   unnamed judge policy octets header e refused (inr p) = named_once octets p.1.certificate header p.1.named refused
 
-  pub one_answer : (judge : Judge) (policy : Policy) (octets : List ℕ) (r s : Result Accepted CheckError) → IsAnswer judge policy octets r → IsAnswer judge policy octets s → AreOneUnlessMemory Memory r s
+  pub one_answer : (judge : Judge) (policy : Policy) (octets : List ℕ) (r s : Result Accepted CheckError) → IsAnswer judge policy octets r
+      → IsAnswer judge policy octets s → AreOneUnlessMemory Memory r s
   one_answer judge policy octets (Err Memory) s h k = inr (inl refl)
   one_answer judge policy octets (Ok a) (Err Memory) h k = inr (inr refl)
   one_answer judge policy octets (Ok a) (Ok b) h k =
@@ -245,7 +261,8 @@ module _ (at_most_one : FaultsAreOne) (exclude : FaultsExclude) where
   one_answer judge policy octets (Err (Authenticode e)) (Err Memory) h k = inr (inr refl)
   one_answer judge policy octets (Err (Authenticode e)) (Ok b) h k = absurd (no_cause judge policy octets k.0 b e k.1 k.2 h)
   one_answer judge policy octets (Err (Authenticode e)) (Err (Win other)) h k = absurd (unnamed judge policy octets other e k h)
-  one_answer judge policy octets (Err (Authenticode e)) (Err (Authenticode other)) h k = inl (ap (λ (x : AuthenticodeError). Err (Authenticode x)) (one_cause judge policy octets e other h k))
+  one_answer judge policy octets (Err (Authenticode e)) (Err (Authenticode other)) h k =
+      inl (ap (λ (x : AuthenticodeError). Err (Authenticode x)) (one_cause judge policy octets e other h k))
 
   -- ---- exits
 
@@ -253,16 +270,19 @@ module _ (at_most_one : FaultsAreOne) (exclude : FaultsExclude) where
     pub answer_at : (r s : Result Accepted CheckError) → r ≡ s → IsAnswer judge policy octets s → IsAnswer judge policy octets r
     answer_at r s e answer = subst (λ (x : Result Accepted CheckError). IsAnswer judge policy octets x) (sym e) answer
 
-    pub only_at : (r s : Result Accepted CheckError) → r ≡ s → IsAnswer judge policy octets s → (other : Result Accepted CheckError) → IsAnswer judge policy octets other → AreOneUnlessMemory Memory r other
+    pub only_at : (r s : Result Accepted CheckError) → r ≡ s → IsAnswer judge policy octets s → (other : Result Accepted CheckError)
+        → IsAnswer judge policy octets other → AreOneUnlessMemory Memory r other
     only_at r s e answer other k =
         subst (λ (x : Result Accepted CheckError). AreOneUnlessMemory Memory x other) (sym e) (one_answer judge policy octets s other answer k)
 
-    pub refused_at : (r : Result Accepted CheckError) (e : CheckError) → r ≡ Err e → RefusesForm policy octets e → (f : CheckError) → RefusesForm policy octets f → r ≡ Err f
+    pub refused_at : (r : Result Accepted CheckError) (e : CheckError) → r ≡ Err e → RefusesForm policy octets e → (f : CheckError)
+        → RefusesForm policy octets f → r ≡ Err f
     refused_at r e is refuses f k = is ∙ ap Err (one_refusal policy octets e f refuses k)
 
     -- why the signed data is refused, its form first
     pub refused_behind : (r : Result Accepted CheckError) (f : SignedDataElements) (given : Result Accepted AuthenticodeError) → HasSignedData octets f
-        → ((x : AuthenticodeError) → IsFirstBroken (asked policy.basic (shape_rules f policy.file_hash)) x → given ≡ Err x) → ((x : AuthenticodeError) → given ≡ Err x → r ≡ Err (of_content x))
+        → ((x : AuthenticodeError) → IsFirstBroken (asked policy.basic (shape_rules f policy.file_hash)) x → given ≡ Err x)
+        → ((x : AuthenticodeError) → given ≡ Err x → r ≡ Err (of_content x))
         → (e : CheckError) → RefusesForm policy octets e → r ≡ Err e
     refused_behind r f given has shape so e k =
         let there = refused_there policy octets f e has k in

@@ -25,14 +25,16 @@ named_once c a b (inl p) (inr q) = absurd (p.0.1 q.0.1)
 named_once c a b (inr p) (inl q) = absurd (q.0.1 p.0.1)
 named_once c a b (inr p) (inr q) = p.1 ∙ sym q.1
 
-one_among : (before after : List CertificateElements) (c : CertificateElements) (name : DerElement) → HasAuthorityName c name → NoneIsAuthority (before ++ c ∷ after) → ⊥
+one_among : (before after : List CertificateElements) (c : CertificateElements) (name : DerElement) → HasAuthorityName c name
+    → NoneIsAuthority (before ++ c ∷ after) → ⊥
 one_among [] after c name named none = none.0 name named
 one_among (d ∷ before) after c name named none = one_among before after c name named none.1
 
 last_or_none : (certificates : List CertificateElements) (name : DerElement) → IsLastAuthority certificates name → NoneIsAuthority certificates → ⊥
 last_or_none certificates name last none = one_among last.before last.after last.c name last.named (subst NoneIsAuthority last.are none)
 
-last_at : (before : List CertificateElements) (c : CertificateElements) (after front : List CertificateElements) (d : CertificateElements) (behind : List CertificateElements) (a b : DerElement) → before ++ c ∷ after ≡ front ++ d ∷ behind
+last_at : (before : List CertificateElements) (c : CertificateElements) (after front : List CertificateElements) (d : CertificateElements)
+    (behind : List CertificateElements) (a b : DerElement) → before ++ c ∷ after ≡ front ++ d ∷ behind
     → HasAuthorityName c a → HasAuthorityName d b → NoneIsAuthority after → NoneIsAuthority behind → a ≡ b
 last_at [] c after [] d behind a b e p q none others =
     named_once d a b (subst (λ (x : CertificateElements). HasAuthorityName x a) (same_head c d after behind e) p) q
@@ -63,12 +65,16 @@ at_once bag (place ∷ places) x y p q =
 
 pub name_once : (bag : List CertificateElements) (places : List ℕ) (a b : DerElement) → IsNameAt bag places a → IsNameAt bag places b → a ≡ b
 name_once bag places a b p q =
-    authority_once q.certificates a b (subst (λ (cs : List CertificateElements). IsAuthorityName cs a) (at_once bag places p.certificates q.certificates p.at q.at) p.is) q.is
+    authority_once q.certificates a b
+    (subst (λ (cs : List CertificateElements). IsAuthorityName cs a) (at_once bag places p.certificates q.certificates p.at q.at) p.is) q.is
 
 pub ca_once : (f : SignedDataElements) (a b : DerElement) → IsSignerCa f a → IsSignerCa f b → a ≡ b
 ca_once f a b p q =
     let bags = same_bag f p.bag q.bag p.is_bag q.is_bag in
-    let same : q.certificate ≡ p.certificate = (signer_once f p.bag q.bag p.place q.place p.certificate q.certificate p.is_bag q.is_bag p.is_signer q.is_signer).1 in
-    let walk : IsIssuerWalk q.bag q.certificate p.walk = subst (λ (c : CertificateElements). IsIssuerWalk q.bag c p.walk) (sym same) (subst (λ (bag : List CertificateElements). IsIssuerWalk bag p.certificate p.walk) bags p.is_walk) in
-    let named : IsNameAt q.bag q.walk a = subst (λ (places : List ℕ). IsNameAt q.bag places a) (one_walk q.bag q.certificate p.walk q.walk walk q.is_walk) (subst (λ (bag : List CertificateElements). IsNameAt bag p.walk a) bags p.named) in
+    let same : q.certificate ≡ p.certificate =
+    (signer_once f p.bag q.bag p.place q.place p.certificate q.certificate p.is_bag q.is_bag p.is_signer q.is_signer).1 in
+    let walk : IsIssuerWalk q.bag q.certificate p.walk = subst (λ (c : CertificateElements). IsIssuerWalk q.bag c p.walk) (sym same)
+    (subst (λ (bag : List CertificateElements). IsIssuerWalk bag p.certificate p.walk) bags p.is_walk) in
+    let named : IsNameAt q.bag q.walk a = subst (λ (places : List ℕ). IsNameAt q.bag places a) (one_walk q.bag q.certificate p.walk q.walk walk q.is_walk)
+    (subst (λ (bag : List CertificateElements). IsNameAt bag p.walk a) bags p.named) in
     name_once q.bag q.walk a b named q.named

@@ -8,7 +8,8 @@ use Rattle.x509_types.specs.Facts.TbsElements.{same_elements}
 
 pub one_certificate : (f g : CertificateElements) → certificate_of f ≡ certificate_of g → f ≡ g
 one_certificate f g e =
-    let three = same_three (tbs_of f.tbs) f.algorithm (Primitive 0x03 (f.unused ∷ f.signature)) (tbs_of g.tbs) g.algorithm (Primitive 0x03 (g.unused ∷ g.signature)) e in
+    let three =
+    same_three (tbs_of f.tbs) f.algorithm (Primitive 0x03 (f.unused ∷ f.signature)) (tbs_of g.tbs) g.algorithm (Primitive 0x03 (g.unused ∷ g.signature)) e in
     let tbs = same_elements f.tbs g.tbs three.0 in
     let bits : Primitive 0x03 (f.unused ∷ f.signature) ≡ Primitive 0x03 (g.unused ∷ g.signature) = three.2 in
     let unused : f.unused ≡ g.unused = cc in

@@ -22,7 +22,8 @@ same_certificate octets a b named named' = cc (named, named')
 pub one_data : (octets : List ℕ) (f g : SignedDataElements) → HasSignedData octets f → HasSignedData octets g → f ≡ g
 one_data octets f g p q =
     let same = same_certificate octets p.certificate q.certificate p.named q.named in
-    let element = one_element q.certificate (pkcs7 p.value) (pkcs7 q.value) (subst (λ (c : List ℕ). IsPaddedEncoding c (pkcs7 p.value)) same p.spelled) q.spelled in
+    let element =
+    one_element q.certificate (pkcs7 p.value) (pkcs7 q.value) (subst (λ (c : List ℕ). IsPaddedEncoding c (pkcs7 p.value)) same p.spelled) q.spelled in
     p.fields ∙ same_fields_of p.value.signed_data q.value.signed_data element ∙ sym q.fields
 
 -- borrowed signed data

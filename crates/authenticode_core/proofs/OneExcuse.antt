@@ -12,7 +12,8 @@ use Rattle.x509_core.specs.KeptCertificate.{KeptCertificate}
 use Rattle.x509_core.specs.declared.error.CertError.{CertError}
 use Rattle.x509_types.specs.CertificateElements.{CertificateElements}
 use Rattle.std.specs.Prelude.{length}
-use Rattle.authenticode_core.specs.Excuses.{AreOthersThan, HasBadStamp, HasNoExcuse, HasReason, HasToken, IsForStamping, IsLinkedToken, IsListedToken, IsUnlinkedStamp, IsUnlinkedToken, IsUnlistedStamp, any_time, places_from, stamp_rules}
+use Rattle.authenticode_core.specs.Excuses.{AreOthersThan, HasBadStamp, HasNoExcuse, HasReason, HasToken, IsForStamping, IsLinkedToken}
+use Rattle.authenticode_core.specs.Excuses.{IsListedToken, IsUnlinkedStamp, IsUnlinkedToken, IsUnlistedStamp, any_time, places_from, stamp_rules}
 use Rattle.authenticode_core.specs.LinkedPath.{IsUnlinkedAt}
 use Rattle.authenticode_core.specs.SigningRules.{IsBagOf}
 use Rattle.authenticode_core.specs.TrustList.{name_rules}
@@ -60,13 +61,16 @@ same_stamping_bag f s t a b p q first second =
 
 -- ---- bad stamps
 
-same_places : (bag : List CertificateElements) (a b : KeptCertificate) (p q : List ℕ) → a ≡ b → AreOthersThan bag a.elements p → AreOthersThan bag b.elements q → p ≡ q
+same_places : (bag : List CertificateElements) (a b : KeptCertificate) (p q : List ℕ) → a ≡ b → AreOthersThan bag a.elements p
+    → AreOthersThan bag b.elements q → p ≡ q
 same_places bag a b p q e first second =
     same_others bag b.elements.tbs.subject (places_from 0 (length bag)) p q (subst (λ (k : KeptCertificate). AreOthersThan bag k.elements p) e first) second
 
-moved : (judge : Judge) (bag : List CertificateElements) (a b : KeptCertificate) (p q : List ℕ) (e : CertError) → a ≡ b → p ≡ q → IsUnlinkedAt judge any_time bag a p e → IsUnlinkedAt judge any_time bag b q e
+moved : (judge : Judge) (bag : List CertificateElements) (a b : KeptCertificate) (p q : List ℕ) (e : CertError) → a ≡ b → p ≡ q
+    → IsUnlinkedAt judge any_time bag a p e → IsUnlinkedAt judge any_time bag b q e
 moved judge bag a b p q e first places unlinked =
-    subst (λ (path : List ℕ). IsUnlinkedAt judge any_time bag b path e) places (subst (λ (k : KeptCertificate). IsUnlinkedAt judge any_time bag k p e) first unlinked)
+    subst (λ (path : List ℕ). IsUnlinkedAt judge any_time bag b path e) places
+    (subst (λ (k : KeptCertificate). IsUnlinkedAt judge any_time bag k p e) first unlinked)
 
 unlinked_token_once : (judge : Judge) (bag : List CertificateElements) (a b : CertError) → IsUnlinkedToken judge bag a → IsUnlinkedToken judge bag b → a ≡ b
 unlinked_token_once judge bag a b p q =
@@ -85,13 +89,15 @@ unlisted_stamp_once : (policy : Policy) (bag : List CertificateElements) → IsR
 unlisted_stamp_once policy bag = λ a b p q.
     let list = given_once (option_copied policy.list) p.0 q.0 p.1 q.1 in
     let ca = name_once bag (places_from 0 (length bag)) p.2 q.2 p.3 q.3 in
-    let there = subst (λ (name : DerElement). IsFirstBroken (name_rules q.0 policy.now name) a) ca (subst (λ (l : CertificateTrustList). IsFirstBroken (name_rules l policy.now p.2) a) list p.4) in
+    let there = subst (λ (name : DerElement). IsFirstBroken (name_rules q.0 policy.now name) a) ca
+    (subst (λ (l : CertificateTrustList). IsFirstBroken (name_rules l policy.now p.2) a) list p.4) in
     name_returned_once q.0 policy.now q.2 a b there q.4
 
 listed_stamp_met : (policy : Policy) (bag : List CertificateElements) → IsListedToken policy bag → IsMet (IsUnlistedStamp policy bag)
 listed_stamp_met policy bag listed = λ e broken.
     let on = listed broken.0 broken.1 in
-    let there = subst (λ (name : DerElement). IsFirstBroken (name_rules broken.0 policy.now name) e) (name_once bag (places_from 0 (length bag)) broken.2 on.0 broken.3 on.1) broken.4 in
+    let there = subst (λ (name : DerElement). IsFirstBroken (name_rules broken.0 policy.now name) e)
+    (name_once bag (places_from 0 (length bag)) broken.2 on.0 broken.3 on.1) broken.4 in
     on_list_unbroken broken.0 policy.now on.0 e on.2 there
 
 -- ---- the rules of a token's bag
@@ -106,14 +112,16 @@ stamp_returned judge policy bag = (unlinked_stamp_once judge bag, (unlisted_stam
 pub linked_stamp_met : (judge : Judge) (bag : List CertificateElements) → IsLinkedToken judge bag → IsMet (IsUnlinkedStamp judge bag)
 linked_stamp_met judge bag linked = λ e broken. linked_token_is_not_broken judge bag broken.0 linked broken.1
 
-stamp_met : (judge : Judge) (policy : Policy) (bag : List CertificateElements) → IsLinkedToken judge bag → IsListedToken policy bag → AreMet (stamp_rules judge policy bag)
+stamp_met : (judge : Judge) (policy : Policy) (bag : List CertificateElements) → IsLinkedToken judge bag → IsListedToken policy bag
+    → AreMet (stamp_rules judge policy bag)
 stamp_met judge policy bag linked listed = (linked_stamp_met judge bag linked, (listed_stamp_met policy bag listed, tt))
 
 module _ (judge : Judge) (policy : Policy) (f : SignedDataElements) (bag : List CertificateElements) (c : CertificateElements) where
   pub stamp_once : (a b : AuthenticodeError) → HasBadStamp judge policy f bag c a → HasBadStamp judge policy f bag c b → a ≡ b
   stamp_once a b p q =
       let bags = same_stamping_bag f p.t q.t p.stamping_bag q.stamping_bag p.has q.has p.stamping q.stamping in
-      one_broken (stamp_rules judge policy q.stamping_bag) (stamp_returned judge policy q.stamping_bag) a b (subst (λ (other : List CertificateElements). IsFirstBroken (stamp_rules judge policy other) a) bags p.broken) q.broken
+      one_broken (stamp_rules judge policy q.stamping_bag) (stamp_returned judge policy q.stamping_bag) a b
+      (subst (λ (other : List CertificateElements). IsFirstBroken (stamp_rules judge policy other) a) bags p.broken) q.broken
 
   pub bad_stamp_is_no_reason : (e : AuthenticodeError) (x : Excuse) → HasBadStamp judge policy f bag c e → HasReason judge policy f bag c x → ⊥
   bad_stamp_is_no_reason e excuses.None bad p = p
@@ -121,4 +129,5 @@ module _ (judge : Judge) (policy : Policy) (f : SignedDataElements) (bag : List 
   bad_stamp_is_no_reason e excuses.Token bad p =
       let s = p.2 in
       let bags = same_stamping_bag f bad.t s.t bad.stamping_bag s.bag bad.has s.has bad.stamping s.stamping in
-      none_broken (stamp_rules judge policy s.bag) (stamp_met judge policy s.bag s.linked s.listed) e (subst (λ (other : List CertificateElements). IsFirstBroken (stamp_rules judge policy other) e) bags bad.broken)
+      none_broken (stamp_rules judge policy s.bag) (stamp_met judge policy s.bag s.linked s.listed) e
+      (subst (λ (other : List CertificateElements). IsFirstBroken (stamp_rules judge policy other) e) bags bad.broken)

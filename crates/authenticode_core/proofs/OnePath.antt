@@ -44,7 +44,8 @@ record Parted (bag : List CertificateElements) (before : List ℕ) (place : ℕ)
   stand : StandAt bag before below
   stands : StandsAt bag place parent.elements
 
-parted : (bag : List CertificateElements) (before : List ℕ) (place : ℕ) (after : List ℕ) (parents : List KeptCertificate) → StandAt bag (before ++ place ∷ after) parents → Parted bag before place parents
+parted : (bag : List CertificateElements) (before : List ℕ) (place : ℕ) (after : List ℕ) (parents : List KeptCertificate)
+    → StandAt bag (before ++ place ∷ after) parents → Parted bag before place parents
 parted bag [] place after [] s = absurd s
 parted bag [] place after (k ∷ ks) s = record { below = []; parent = k; above = ks; are = refl; stand = tt; stands = s.0 }
 parted bag (first ∷ before) place after [] s = absurd s
@@ -86,7 +87,8 @@ two_places (h ∷ a) (k ∷ b) x y c d e =
 
 module _ (judge : Judge) (w : Window) (bag : List CertificateElements) (checked : KeptCertificate) where
   -- what is linked at an index isn't broken there
-  linked_there : (places : List ℕ) (e : CertError) (u : IsUnlinkedAt judge w bag checked places e) (rest : List ℕ) (parents : List KeptCertificate) → StandAt bag (u.before ++ u.place ∷ rest) parents → IsLinkedChain judge w checked parents → ⊥
+  linked_there : (places : List ℕ) (e : CertError) (u : IsUnlinkedAt judge w bag checked places e) (rest : List ℕ) (parents : List KeptCertificate)
+      → StandAt bag (u.before ++ u.place ∷ rest) parents → IsLinkedChain judge w checked parents → ⊥
   linked_there places e u rest parents stand linked =
       let parts = parted bag u.before u.place rest parents stand in
       let below = stand_once bag u.before parts.below u.below parts.stand u.stand in
@@ -99,15 +101,18 @@ module _ (judge : Judge) (w : Window) (bag : List CertificateElements) (checked 
   pub linked_is_not_broken : (places : List ℕ) (e : CertError) → AreLinkedAt judge w bag checked places → IsUnlinkedAt judge w bag checked places e → ⊥
   linked_is_not_broken places e l u = linked_there places e u u.after l.parents (subst (λ (ps : List ℕ). StandAt bag ps l.parents) u.are l.stand) l.linked
 
-  same_break : (places : List ℕ) (a b : CertError) (p : IsUnlinkedAt judge w bag checked places a) (q : IsUnlinkedAt judge w bag checked places b) → AreTwo p.before q.before p.place q.place → a ≡ b
+  same_break : (places : List ℕ) (a b : CertError) (p : IsUnlinkedAt judge w bag checked places a) (q : IsUnlinkedAt judge w bag checked places b)
+      → AreTwo p.before q.before p.place q.place → a ≡ b
   same_break places a b p q (inl (before, place)) =
       let below = stand_once bag q.before p.below q.below (subst (λ (ps : List ℕ). StandAt bag ps p.below) before p.stand) q.stand in
       let parent = kept_at_once bag q.place p.parent q.parent (subst (λ (n : ℕ). StandsAt bag n p.parent.elements) place p.stands) q.stands in
       let there = subst (λ (k : KeptCertificate). IsFirstBroken (link_rules judge w (length q.below) k (last_of checked q.below)) a) parent
       (subst (λ (ks : List KeptCertificate). IsFirstBroken (link_rules judge w (length ks) p.parent (last_of checked ks)) a) below p.broken) in
       link_once judge w (length q.below) q.parent (last_of checked q.below) a b there q.broken
-  same_break places a b p q (inr (inl (rest, e))) = absurd (linked_there places a p rest q.below (subst (λ (ps : List ℕ). StandAt bag ps q.below) e q.stand) q.linked)
-  same_break places a b p q (inr (inr (rest, e))) = absurd (linked_there places b q rest p.below (subst (λ (ps : List ℕ). StandAt bag ps p.below) e p.stand) p.linked)
+  same_break places a b p q (inr (inl (rest, e))) =
+      absurd (linked_there places a p rest q.below (subst (λ (ps : List ℕ). StandAt bag ps q.below) e q.stand) q.linked)
+  same_break places a b p q (inr (inr (rest, e))) =
+      absurd (linked_there places b q rest p.below (subst (λ (ps : List ℕ). StandAt bag ps p.below) e p.stand) p.linked)
 
   pub unlinked_once : (places : List ℕ) (a b : CertError) → IsUnlinkedAt judge w bag checked places a → IsUnlinkedAt judge w bag checked places b → a ≡ b
   unlinked_once places a b p q = same_break places a b p q (two_places p.before q.before p.place q.place p.after q.after (sym p.are ∙ q.are))

@@ -15,7 +15,8 @@ use Rattle.x509_types.specs.CertificateElements.{CertificateElements}
 use Rattle.authenticode_core.specs.Inside.PolicySteps.{valid_and_vouched_rules, validity_rules}
 use Rattle.authenticode_core.specs.LinkedPath.{IsPathAsked, IsUnlinkedAt}
 use Rattle.authenticode_core.specs.Policy.{window_of}
-use Rattle.authenticode_core.specs.SignerRules.{HasKeyName, HasUnknownName, IsBadlyStamped, IsKeptSigner, IsSignerVouched, IsValidAndVouched, IsUnbegun, IsUndated, IsUnexcused, IsUnvouched, IsValidOrExcusable, signer_rules}
+use Rattle.authenticode_core.specs.SignerRules.{HasKeyName, HasUnknownName, IsBadlyStamped, IsKeptSigner, IsSignerVouched, IsValidAndVouched}
+use Rattle.authenticode_core.specs.SignerRules.{IsUnbegun, IsUndated, IsUnexcused, IsUnvouched, IsValidOrExcusable, signer_rules}
 use Rattle.authenticode_core.specs.SigningRules.{HasNoCertificate}
 use Rattle.authenticode_core.specs.declared.accepted.Accepted.{Accepted}
 use Rattle.authenticode_core.specs.declared.accepted.Excuse.{Excuse}
@@ -26,7 +27,8 @@ use Rattle.authenticode_core.proofs.FormFields.{signer_once as first_once}
 use Rattle.authenticode_core.proofs.OneExcuse.{reason_once, stamp_once}
 use Rattle.authenticode_core.proofs.OnePath.{linked_is_not_broken, unlinked_once}
 use Rattle.authenticode_core.proofs.OneSigning.{certificate_once, signer_once}
-use Rattle.authenticode_core.proofs.SignerOrder.{dated_met, moved, named_met, named_rules, stamped_at, vouched_is_valid, unbegun_at, unexcused_at, unvouched_at, valid_or_expired, validity_met}
+use Rattle.authenticode_core.proofs.SignerOrder.{dated_met, moved, named_met, named_rules, stamped_at, vouched_is_valid}
+use Rattle.authenticode_core.proofs.SignerOrder.{unbegun_at, unexcused_at, unvouched_at, valid_or_expired, validity_met}
 use Rattle.authenticode_core.proofs.WalkSteps.{one_path}
 
 outside_once : (w : Window) (signer : KeptCertificate) → IsReturnedOnce (IsOutside w signer)
@@ -77,21 +79,25 @@ module _ (judge : Judge) (policy : Policy) (f : SignedDataElements) where
   -- ---- a certificate that is vouched for breaks none
 
   module _ (bag : List CertificateElements) (place : ℕ) (signer : KeptCertificate) (is : IsKeptSigner f bag place signer) where
-    path_met : (path : List ℕ) (chain : Bool) → policy.chain ≡ chain → IsPathAsked chain judge (window_of policy) bag signer path → IsMet (IsUnvouched judge policy f)
+    path_met : (path : List ℕ) (chain : Bool) → policy.chain ≡ chain → IsPathAsked chain judge (window_of policy) bag signer path
+        → IsMet (IsUnvouched judge policy f)
     path_met path true on p = λ e broken.
         let there = unvouched_at judge policy f bag place signer is e broken in
         let same = one_path bag signer.elements there.1 path there.3 p.is_path in
-        linked_is_not_broken judge (window_of policy) bag signer path there.2 p.linked (subst (λ (x : List ℕ). IsUnlinkedAt judge (window_of policy) bag signer x there.2) same there.4)
+        linked_is_not_broken judge (window_of policy) bag signer path there.2 p.linked
+        (subst (λ (x : List ℕ). IsUnlinkedAt judge (window_of policy) bag signer x there.2) same there.4)
     path_met path false off p = λ e broken. asked_or_not policy.chain off broken.asked
 
-    pub valid_and_vouched_met : (path : List ℕ) (excuse : Excuse) → IsValidAndVouched judge policy f bag signer path excuse → AreMet (valid_and_vouched_rules judge policy f)
+    pub valid_and_vouched_met : (path : List ℕ) (excuse : Excuse) → IsValidAndVouched judge policy f bag signer path excuse
+        → AreMet (valid_and_vouched_rules judge policy f)
     valid_and_vouched_met path excuse vouched =
         let valid = validity_met judge policy f bag place signer is excuse (vouched_is_valid judge policy f bag place signer is path excuse vouched) in
         met_together (validity_rules judge policy f) (IsUnvouched judge policy f ∷ []) valid (path_met path policy.chain refl vouched.path_is, tt)
 
     -- ---- and has one report
 
-    same_asked : (chain : Bool) (p q : List ℕ) → IsPathAsked chain judge (window_of policy) bag signer p → IsPathAsked chain judge (window_of policy) bag signer q → p ≡ q
+    same_asked : (chain : Bool) (p q : List ℕ) → IsPathAsked chain judge (window_of policy) bag signer p
+        → IsPathAsked chain judge (window_of policy) bag signer q → p ≡ q
     same_asked true p q a b = one_path bag signer.elements p q a.is_path b.is_path
     same_asked false p q a b = a ∙ sym b
 
@@ -106,22 +112,27 @@ module _ (judge : Judge) (policy : Policy) (f : SignedDataElements) where
     same_excuse excuses.Token excuses.Bag a b = reason_once judge policy f bag signer.elements excuses.Token excuses.Bag a.1 b.1
     same_excuse excuses.Token excuses.Token a b = refl
 
-    pub valid_and_vouched_once : (p q : List ℕ) (x y : Excuse) → IsValidAndVouched judge policy f bag signer p x → IsValidAndVouched judge policy f bag signer q y → (p ≡ q) × (x ≡ y)
+    pub valid_and_vouched_once : (p q : List ℕ) (x y : Excuse) → IsValidAndVouched judge policy f bag signer p x
+        → IsValidAndVouched judge policy f bag signer q y → (p ≡ q) × (x ≡ y)
     valid_and_vouched_once p q x y a b =
         let excuse = same_excuse x y (vouched_is_valid judge policy f bag place signer is p x a) (vouched_is_valid judge policy f bag place signer is q y b) in
         (same_asked policy.chain p q a.path_is b.path_is, excuse)
 
   pub signer_met : (a : Accepted) → IsSignerVouched judge policy f a → AreMet (signer_rules judge policy f)
   signer_met a v =
-      let behind : AreMet (IsUndated policy ∷ valid_and_vouched_rules judge policy f) = (dated_met policy v.dated, valid_and_vouched_met v.bag v.place v.signer v.is a.path a.excuse v.valid) in
-      met_together (named_rules f) (IsUndated policy ∷ valid_and_vouched_rules judge policy f) (named_met f v.bag v.place v.signer.elements v.is.is_bag v.is.is_signer) behind
+      let behind : AreMet (IsUndated policy ∷ valid_and_vouched_rules judge policy f) =
+      (dated_met policy v.dated, valid_and_vouched_met v.bag v.place v.signer v.is a.path a.excuse v.valid) in
+      met_together (named_rules f) (IsUndated policy ∷ valid_and_vouched_rules judge policy f)
+      (named_met f v.bag v.place v.signer.elements v.is.is_bag v.is.is_signer) behind
 
   pub same_accepted : (a b : Accepted) → a.signer ≡ b.signer → a.path ≡ b.path → a.excuse ≡ b.excuse → a ≡ b
   same_accepted a b signer path excuse = λ i. record { signer = signer i; path = path i; excuse = excuse i }
 
   pub vouched_once : (a b : Accepted) → IsSignerVouched judge policy f a → IsSignerVouched judge policy f b → a ≡ b
   vouched_once a b v w =
-      let place : v.place ≡ w.place = (signer_once f v.bag w.bag v.place w.place v.signer.elements w.signer.elements v.is.is_bag w.is.is_bag v.is.is_signer w.is.is_signer).0 in
-      let there = moved (λ (bag : List CertificateElements) (signer : KeptCertificate). IsValidAndVouched judge policy f bag signer b.path b.excuse) f w.bag v.bag w.place v.place w.signer v.signer w.is v.is w.valid in
+      let place : v.place ≡ w.place =
+      (signer_once f v.bag w.bag v.place w.place v.signer.elements w.signer.elements v.is.is_bag w.is.is_bag v.is.is_signer w.is.is_signer).0 in
+      let there = moved (λ (bag : List CertificateElements) (signer : KeptCertificate). IsValidAndVouched judge policy f bag signer b.path b.excuse)
+      f w.bag v.bag w.place v.place w.signer v.signer w.is v.is w.valid in
       let same = valid_and_vouched_once v.bag v.place v.signer v.is a.path b.path a.excuse b.excuse v.valid there in
       same_accepted a b (v.place_is ∙ ap Some place ∙ sym w.place_is) same.0 same.1

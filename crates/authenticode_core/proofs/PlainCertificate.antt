@@ -46,7 +46,15 @@ new_year time y =
     let first : y.tens ≡ 48 + full.0 % 100 / 10 = omega (arith, full.2, tens.0, tens.1, units.0, units.1) in
     let second : y.units ≡ 48 + full.0 % 100 % 10 = omega (arith, full.2, tens.0, tens.1, units.0, units.1) in (
       record {
-        time = record { year = full.0; month = 1; day = 1; hour = 0; minute = 0; second = 0; exists = new_year_exists full.0 (omega (arith, full.1.last_year)) };
+        time = record {
+          year = full.0;
+          month = 1;
+          day = 1;
+          hour = 0;
+          minute = 0;
+          second = 0;
+          exists = new_year_exists full.0 (omega (arith, full.1.last_year));
+        };
         of_years = full.1;
       },
       y.written ∙ (λ i. first i ∷ second i ∷ codes "0101000000Z"),

@@ -32,7 +32,9 @@ use Rattle.x509_types.specs.declared.attribute.values.AttributeValues.TheVariant
 use Rattle.x509_types.specs.Attribute.{IsAttribute, AreAttributes}
 use Rattle.authenticode_core.specs.Asn1.{context}
 use Rattle.authenticode_core.specs.Basic.{HasSignedData}
-use Rattle.authenticode_core.specs.PlainForm.{PlainParts, SignerParts, IsPlain, IsPlainForm, algorithm, plain_attribute, plain_attributes, plain_certificate, plain_content_info, plain_digest_info, empty_link, image_data, indirect_data, plain_issuer_and_serial_number, no_program_name, signed_content, plain_signed_data, signed_data_fields, signer_fields, plain_signer_info}
+use Rattle.authenticode_core.specs.PlainForm.{PlainParts, SignerParts, IsPlain, IsPlainForm, algorithm, plain_attribute, plain_attributes, plain_certificate}
+use Rattle.authenticode_core.specs.PlainForm.{plain_content_info, plain_digest_info, empty_link, image_data, indirect_data, plain_issuer_and_serial_number}
+use Rattle.authenticode_core.specs.PlainForm.{no_program_name, signed_content, plain_signed_data, signed_data_fields, signer_fields, plain_signer_info}
 use Rattle.authenticode_core.specs.PlainFields.{HasPlainFields, plain_data, plain_elements, plain_signer}
 use Rattle.authenticode_core.specs.SignedFields.{HasMessageDigest, IsAttributeOf, IsFirstSigner}
 use Rattle.authenticode_core.specs.SigningRules.{digested_octets}
@@ -55,10 +57,12 @@ has_algorithm : (contents : List ℕ) → is_known contents ≡ true → IsDer n
 has_algorithm contents known der = (algorithm_value contents known der, refl)
 
 abbrev pub name_value : List ℕ → List (List AttributeTypeAndValue)
-name_value text = (record { ty = identifier identifiers.AT_COMMON_NAME.now refl; value = strings.DirectoryString (directory_strings.Utf8String text) } ∷ []) ∷ []
+name_value text =
+    (record { ty = identifier identifiers.AT_COMMON_NAME.now refl; value = strings.DirectoryString (directory_strings.Utf8String text) } ∷ []) ∷ []
 
 has_sid : (issuer serial : List ℕ) → serial ≢ [] → Fits IsSignerIdentifier (plain_issuer_and_serial_number issuer serial)
-has_sid issuer serial some = (named.IssuerAndSerialNumber (record { issuer = name_value issuer; serial_number = record { contents = serial; formed = some } }), refl)
+has_sid issuer serial some =
+    (named.IssuerAndSerialNumber (record { issuer = name_value issuer; serial_number = record { contents = serial; formed = some } }), refl)
 
 -- ---- the content
 
@@ -67,7 +71,8 @@ image_value = sequence (bit_octets [] ∷ empty_link ∷ [])
 
 image_value_der : (file_hash : List ℕ) → IsDer (plain_content_info file_hash) → IsDer image_value
 image_value_der file_hash der =
-    let tagged = (inside 0x30 (plain_content_info file_hash) (object_identifier_of identifiers.SPC_INDIRECT_DATA.now ∷ context 0 (indirect_data file_hash ∷ []) ∷ []) der refl).1.0 in
+    let tagged = (inside 0x30 (plain_content_info file_hash)
+    (object_identifier_of identifiers.SPC_INDIRECT_DATA.now ∷ context 0 (indirect_data file_hash ∷ []) ∷ []) der refl).1.0 in
     let data_der = (inside 0xA0 (context 0 (indirect_data file_hash ∷ [])) (indirect_data file_hash ∷ []) tagged refl).0 in
     let image = (inside 0x30 (indirect_data file_hash) (image_data ∷ plain_digest_info file_hash ∷ []) data_der refl).0 in
     (inside 0x30 image_data (object_identifier_of identifiers.SPC_PE_IMAGE_DATA.now ∷ image_value ∷ []) image refl).1.0
@@ -87,20 +92,27 @@ has_content file_hash null_der der = (
 
 -- ---- the signer
 
-has_type : (known : is_known identifiers.CONTENT_TYPE.now ≡ true) → Fits IsAttribute (plain_attribute identifiers.CONTENT_TYPE.now (object_identifier_of identifiers.SPC_INDIRECT_DATA.now))
+has_type : (known : is_known identifiers.CONTENT_TYPE.now ≡ true)
+    → Fits IsAttribute (plain_attribute identifiers.CONTENT_TYPE.now (object_identifier_of identifiers.SPC_INDIRECT_DATA.now))
 has_type known =
     let value = object_identifier_of identifiers.SPC_INDIRECT_DATA.now in (
-      record { ty = identifier identifiers.CONTENT_TYPE.now known; value = values.ContentType (identifier identifiers.SPC_INDIRECT_DATA.now refl ∷ []); fits = refl },
+      record {
+        ty = identifier identifiers.CONTENT_TYPE.now known;
+        value = values.ContentType (identifier identifiers.SPC_INDIRECT_DATA.now refl ∷ []);
+        fits = refl;
+      },
       record { values = set (value ∷ []); is = refl; spelled = record { kids = value ∷ []; holds = refl; each = (refl, tt) } },
     )
 
-has_program : (known : is_known identifiers.SPC_SP_OPUS_INFO.now ≡ true) → IsDer no_program_name → Fits IsAttribute (plain_attribute identifiers.SPC_SP_OPUS_INFO.now no_program_name)
+has_program : (known : is_known identifiers.SPC_SP_OPUS_INFO.now ≡ true) → IsDer no_program_name
+    → Fits IsAttribute (plain_attribute identifiers.SPC_SP_OPUS_INFO.now no_program_name)
 has_program known der = (
   record { ty = identifier identifiers.SPC_SP_OPUS_INFO.now known; value = values.Raw (kept no_program_name der ∷ []); fits = refl },
   record { values = set (no_program_name ∷ []); is = refl; spelled = record { kids = no_program_name ∷ []; holds = refl; each = (refl, tt) } },
 )
 
-has_digest : (known : is_known identifiers.MESSAGE_DIGEST.now ≡ true) (digest : List ℕ) → Fits IsAttribute (plain_attribute identifiers.MESSAGE_DIGEST.now (octet_string digest))
+has_digest : (known : is_known identifiers.MESSAGE_DIGEST.now ≡ true) (digest : List ℕ)
+    → Fits IsAttribute (plain_attribute identifiers.MESSAGE_DIGEST.now (octet_string digest))
 has_digest known digest = (
   record { ty = identifier identifiers.MESSAGE_DIGEST.now known; value = values.MessageDigest (digest ∷ []); fits = refl },
   record { values = set (octet_string digest ∷ []); is = refl; spelled = record { kids = octet_string digest ∷ []; holds = refl; each = (refl, tt) } },
@@ -117,7 +129,8 @@ program_der : (s : SignerParts) → IsDer (plain_signer_info s) → IsDer no_pro
 program_der s der =
     let signed = (inside 0x30 (plain_signer_info s) (signer_fields s) der refl).1.1.1.0 in
     let opus = (inside 0xA0 (context 0 (plain_attributes s.message_digest)) (plain_attributes s.message_digest) signed refl).1.0 in
-    let programs = (inside 0x30 (plain_attribute identifiers.SPC_SP_OPUS_INFO.now no_program_name) (object_identifier_of identifiers.SPC_SP_OPUS_INFO.now ∷ set (no_program_name ∷ []) ∷ []) opus refl).1.0 in
+    let programs = (inside 0x30 (plain_attribute identifiers.SPC_SP_OPUS_INFO.now no_program_name)
+    (object_identifier_of identifiers.SPC_SP_OPUS_INFO.now ∷ set (no_program_name ∷ []) ∷ []) opus refl).1.0 in
     (inside 0x31 (set (no_program_name ∷ [])) (no_program_name ∷ []) programs refl).0
 
 signer_fields_have_shape : (s : SignerParts) → s.serial ≢ [] → IsDer null → IsDer (plain_signer_info s) → AreSignerFields (plain_signer s)
@@ -173,7 +186,8 @@ pub has_shape : (p : PlainParts) → p.signer.serial ≢ [] → IsDer (signed_co
 has_shape p some der =
     let b = bounded p der in
     Pkcs7 {signed_data = plain_signed_data p} refl (Signed {f = plain_elements p} {signers = plain_signer_info p.signer ∷ []}
-    (record { is = refl; fields = data_fields_have_shape p b.parameters b.content }) refl (MoreSigners (is_signer p.signer some b.parameters b.signer) NoSigners))
+    (record { is = refl; fields = data_fields_have_shape p b.parameters b.content }) refl
+    (MoreSigners (is_signer p.signer some b.parameters b.signer) NoSigners))
 
 within : (f g : SignedDataElements) → pkcs7_of (signed_data_of f) ≡ pkcs7_of (signed_data_of g) → signed_data_of f ≡ signed_data_of g
 within f g e = cc
@@ -191,7 +205,8 @@ plain_form_has_signed_data octets p form =
       named = form.named;
       value = value.0;
       spelled = subst (IsPaddedEncoding form.certificate) value.1 form.spelled;
-      fields = same_data (plain_elements p) (signed_data_elements value.0.signed_data) (determined_data (plain_elements p) (data_fields_have_shape p b.parameters b.content)) (determined_value value.0.signed_data)
+      fields = same_data (plain_elements p) (signed_data_elements value.0.signed_data)
+          (determined_data (plain_elements p) (data_fields_have_shape p b.parameters b.content)) (determined_value value.0.signed_data)
           (within (plain_elements p) (signed_data_elements value.0.signed_data) value.1);
     }
 
@@ -204,11 +219,13 @@ first_signer p some der =
     record {
       value = value.0;
       others = [];
-      is = same_signer (plain_signer p.signer) (signer_elements value.0) (determined_fields (plain_signer p.signer) (signer_fields_have_shape p.signer some b.parameters b.signer)) (determined_signer value.0) value.1;
+      is = same_signer (plain_signer p.signer) (signer_elements value.0)
+          (determined_fields (plain_signer p.signer) (signer_fields_have_shape p.signer some b.parameters b.signer)) (determined_signer value.0) value.1;
       first = ap (λ (e : DerElement). e ∷ []) value.1;
     }
 
-other_type : (oid other : List ℕ) (values : List DerElement) (value : DerElement) → (other ≡ oid → ⊥) → IsAttributeOf oid (plain_attribute other value) values → ⊥
+other_type : (oid other : List ℕ) (values : List DerElement) (value : DerElement) → (other ≡ oid → ⊥)
+    → IsAttributeOf oid (plain_attribute other value) values → ⊥
 other_type oid other values value apart is = let same : other ≡ oid = cc in apart same
 
 pub bound_by : (p : PlainParts) → IsPlain p → HasMessageDigest (plain_signer p.signer) (digest_of SHA2_256 (digested_octets (plain_data p.file_hash)))

@@ -29,7 +29,8 @@ use Rattle.authenticode_core.specs.Basic.{VouchesFor}
 use Rattle.authenticode_core.specs.CertificateBag.{IsBag, IsMember}
 use Rattle.authenticode_core.specs.Places.{StandsAt}
 use Rattle.authenticode_core.specs.PlainFields.{HasPlainFields, IsPlainlyAccepted, plain_data, plain_elements, plain_signer}
-use Rattle.authenticode_core.specs.PlainForm.{CertificateParts, IsPlain, IsPlainForm, PlainParts, algorithm, plain_certificate, plain_name, plain_public_key_info, plain_message}
+use Rattle.authenticode_core.specs.PlainForm.{CertificateParts, IsPlain, IsPlainForm, PlainParts, algorithm}
+use Rattle.authenticode_core.specs.PlainForm.{plain_certificate, plain_name, plain_public_key_info, plain_message}
 use Rattle.authenticode_core.specs.SignedFields.{IndirectData, IsFirstSigner, signers_of}
 use Rattle.authenticode_core.specs.SigningRules.{AsksForPurposes, IsSigned, HasSignatureBy, NamesDigest}
 use Rattle.authenticode_core.proofs.DigestNames.{named_once}
@@ -42,7 +43,8 @@ use Rattle.authenticode_core.proofs.WalkSteps.{same_certificate}
 
 -- ---- a bag with at most one member
 
-only_one : (member : DerElement) (bag : List CertificateElements) (place : ℕ) (c : CertificateElements) → IsBag (member ∷ []) bag → StandsAt bag place c → (place ≡ 0) × IsMember member c
+only_one : (member : DerElement) (bag : List CertificateElements) (place : ℕ) (c : CertificateElements) → IsBag (member ∷ []) bag → StandsAt bag place c
+    → (place ≡ 0) × IsMember member c
 only_one member bag place c (inl p) stands = absurd (omega (arith, slice_get_within bag place c stands, ap length p.1))
 only_one member bag place c (inr p) stands =
     let whole : bag ≡ p.0 ∷ [] = p.2 ∙ ap (λ (rest : List CertificateElements). p.0 ∷ rest) p.4 in
@@ -52,9 +54,11 @@ only_one member bag place c (inr p) stands =
 
 -- ---- the key
 
-key_is : (info : SubjectPublicKeyInfo) (key : SubjectKey) (octets bytes : List ℕ) → info.subject_public_key ≡ key → plain_public_key_info octets ≡ written_info info → IsPkcs1Of key bytes → bytes ≡ octets
+key_is : (info : SubjectPublicKeyInfo) (key : SubjectKey) (octets bytes : List ℕ) → info.subject_public_key ≡ key
+    → plain_public_key_info octets ≡ written_info info → IsPkcs1Of key bytes → bytes ≡ octets
 key_is info (keys.Rsa k) octets bytes is same pkcs1 =
-    let both : plain_public_key_info octets ≡ sequence (algorithm_identifier info.algorithm ∷ bit_octets (encoding (rsa_public_key k)) ∷ []) = same ∙ ap (λ (s : SubjectKey). sequence (algorithm_identifier info.algorithm ∷ subject_public_key s ∷ [])) is in
+    let both : plain_public_key_info octets ≡ sequence (algorithm_identifier info.algorithm ∷ bit_octets (encoding (rsa_public_key k)) ∷ []) =
+    same ∙ ap (λ (s : SubjectKey). sequence (algorithm_identifier info.algorithm ∷ subject_public_key s ∷ [])) is in
     let contents : octets ≡ encoding (rsa_public_key k) = cc in
     pkcs1.0 ∙ sym contents
 key_is info (keys.Ec bits) octets bytes is same pkcs1 = absurd pkcs1
@@ -68,11 +72,13 @@ names_sha256 : NamesDigest (algorithm identifiers.SHA256.now) SHA2_256
 names_sha256 = record { variant = variants.SHA2_256; parameters = null ∷ []; is = refl; named = refl }
 
 module _ (judge : Judge) (p : PlainParts) where
-  accepted : (c : CertificateElements) (hash : HashAlgorithm) → IsMember (plain_certificate p.certificate) c → NamesDigest (plain_signer p.signer).digest_algorithm hash → HasSignatureBy judge (plain_signer p.signer) hash c
+  accepted : (c : CertificateElements) (hash : HashAlgorithm) → IsMember (plain_certificate p.certificate) c
+      → NamesDigest (plain_signer p.signer).digest_algorithm hash → HasSignatureBy judge (plain_signer p.signer) hash c
       → judge RsaSha256 p.certificate.tbs.key (plain_message p) p.signer.signature ≡ Accept
   accepted c hash member named signed =
       let same : plain_certificate_fields p.certificate ≡ c = one_certificate (plain_certificate_fields p.certificate) c member.is in
-      let info : plain_public_key_info p.certificate.tbs.key ≡ written_info signed.info = ap (λ (x : CertificateElements). x.tbs.subject_public_key_info) same ∙ signed.key in
+      let info : plain_public_key_info p.certificate.tbs.key ≡ written_info signed.info =
+      ap (λ (x : CertificateElements). x.tbs.subject_public_key_info) same ∙ signed.key in
       let digest : hash ≡ SHA2_256 = named_once (algorithm identifiers.SHA256.now) hash SHA2_256 named names_sha256 in
       let a = signed.accepted in
       let alg : a.alg ≡ RsaSha256 = a.fits.0 ∙ ap rsa_alg digest in
@@ -83,12 +89,14 @@ module _ (judge : Judge) (p : PlainParts) where
       λ i. judge (alg i) (key i) (plain_message p) (signature i) in
       sym moved ∙ judged
 
-  signed_there : (d : IndirectData) (place : ℕ) → IsSigned judge (plain_elements p) d (plain_signer p.signer) place → (place ≡ 0) × (judge RsaSha256 p.certificate.tbs.key (plain_message p) p.signer.signature ≡ Accept)
+  signed_there : (d : IndirectData) (place : ℕ) → IsSigned judge (plain_elements p) d (plain_signer p.signer) place
+      → (place ≡ 0) × (judge RsaSha256 p.certificate.tbs.key (plain_message p) p.signer.signature ≡ Accept)
   signed_there d place s =
       let one = only_one (plain_certificate p.certificate) s.bag place s.certificate s.is_bag s.is_signer.stands in
       (one.0, accepted s.certificate s.hash one.1 s.named s.signed)
 
-  pub was_accepted : (file_hash : List ℕ) (place : ℕ) → IsFirstSigner (plain_elements p) (plain_signer p.signer) → VouchesFor judge (plain_elements p) file_hash place → (place ≡ 0) × IsPlainlyAccepted judge p file_hash
+  pub was_accepted : (file_hash : List ℕ) (place : ℕ) → IsFirstSigner (plain_elements p) (plain_signer p.signer)
+      → VouchesFor judge (plain_elements p) file_hash place → (place ≡ 0) × IsPlainlyAccepted judge p file_hash
   was_accepted file_hash place first v =
       let d : v.d ≡ plain_data p.file_hash = indirect_once (plain_elements p) v.d (plain_data p.file_hash) v.form.indirect refl in
       let g : v.g ≡ plain_signer p.signer = signer_once (plain_elements p) v.g (plain_signer p.signer) v.form.signer first in
@@ -104,7 +112,8 @@ plain_parts p plain = record { some_serial = plain.some_serial; not_before = pla
 asks_nothing : (c : CertificateParts) → AsksForPurposes (plain_certificate_fields c ∷ []) (plain_certificate_fields c) → ⊥
 asks_nothing c asks =
     let place : 0 ≡ asks.place = omega (arith, slice_get_within (plain_certificate_fields c ∷ []) asks.place asks.c asks.stands) in
-    let same : asks.c ≡ plain_certificate_fields c = same_certificate (plain_certificate_fields c ∷ []) 0 asks.place (plain_certificate_fields c) asks.c place refl asks.stands in
+    let same : asks.c ≡ plain_certificate_fields c =
+    same_certificate (plain_certificate_fields c ∷ []) 0 asks.place (plain_certificate_fields c) asks.c place refl asks.stands in
     no_extension (subst HasPurposes same asks.purposes) where
       no_extension : HasPurposes (plain_certificate_fields c) → ⊥
       no_extension h = none h.1.before h.1.extension h.1.after h.1.are where
@@ -112,11 +121,14 @@ asks_nothing c asks =
         none [] x after e = absurd cc
         none (b ∷ before) x after e = absurd cc
 
-module _ (judge : Judge) (p : PlainParts) (file_hash : List ℕ) (plain : IsPlain p) (der : IsDer null) (fields : HasPlainFields p) (a : IsPlainlyAccepted judge p file_hash) where
+module _ (judge : Judge) (p : PlainParts) (file_hash : List ℕ) (plain : IsPlain p) (der : IsDer null) (fields : HasPlainFields p)
+    (a : IsPlainlyAccepted judge p file_hash) where
   is_named : IsNamedByFirst (signers_of (plain_elements p)) (plain_certificate_fields p.certificate)
   is_named =
-      let lent : LendsNamed (plain_signer p.signer).sid (encoding (plain_name p.signer.issuer)) p.signer.serial = record { name = plain_name p.signer.issuer; is = refl; octets = refl } in
-      (named_or_not (plain_elements p) (plain_signer p.signer) (encoding (plain_name p.signer.issuer)) p.signer.serial fields.form.signer lent (plain_certificate_fields p.certificate)).0
+      let lent : LendsNamed (plain_signer p.signer).sid (encoding (plain_name p.signer.issuer)) p.signer.serial =
+      record { name = plain_name p.signer.issuer; is = refl; octets = refl } in
+      (named_or_not (plain_elements p) (plain_signer p.signer) (encoding (plain_name p.signer.issuer)) p.signer.serial fields.form.signer lent
+      (plain_certificate_fields p.certificate)).0
       (ap (λ (text : List ℕ). encoding (plain_name text)) (sym plain.issuer), sym plain.serial)
 
   is_signed : HasSignatureBy judge (plain_signer p.signer) SHA2_256 (plain_certificate_fields p.certificate)

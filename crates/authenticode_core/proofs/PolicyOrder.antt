@@ -1,6 +1,7 @@
 -- The rules of a policy: what meets them, that each is reported by one error, and which is broken
 -- first.
-use Rattle.std.proofs.Common.{◌≡◌, ℕ, List, [], ◌++◌, Bool, Option, Some, None, Result, Ok, Err, MatchResult, true, false, IsTrue, inl, inr, refl, sym, ap, subst, ◌∙◌}
+use Rattle.std.proofs.Common.{◌≡◌, ℕ, List, [], ◌++◌, Bool, Option, Some, None, Result, Ok, Err}
+use Rattle.std.proofs.Common.{MatchResult, true, false, IsTrue, inl, inr, refl, sym, ap, subst, ◌∙◌}
 use Rattle.std.specs.Prelude.{IfSome}
 use Rattle.cms_types.specs.SignedDataElements.{SignedDataElements}
 use Rattle.der_core.specs.Rules.{Rule, IsFirstBroken}
@@ -34,7 +35,8 @@ pub asked_returned : (b : Bool) (rules : List (Rule AuthenticodeError)) → AreR
 asked_returned true rules returned = returned
 asked_returned false rules returned = tt
 
-behind_asked : (b : Bool) (rules others : List (Rule AuthenticodeError)) (e : AuthenticodeError) → b ≡ true → AreMet rules → IsFirstBroken others e → IsFirstBroken (rules ++ asked b others) e
+behind_asked : (b : Bool) (rules others : List (Rule AuthenticodeError)) (e : AuthenticodeError) → b ≡ true → AreMet rules → IsFirstBroken others e
+    → IsFirstBroken (rules ++ asked b others) e
 behind_asked true rules others e on met broken = broken_behind rules others e met broken
 behind_asked false rules others e on met broken = absurd (cc on)
 
@@ -58,20 +60,24 @@ module _ (judge : Judge) (policy : Policy) (f : SignedDataElements) where
 
   later_returned : AreReturnedOnce later_rules
   later_returned =
-      returned_together signer_part ca_part (asked_returned policy.signing (signer_rules judge policy f) (signer_returned judge policy f)) (asked_returned policy.against_list (ca_rules policy f) (ca_returned policy f))
+      returned_together signer_part ca_part (asked_returned policy.signing (signer_rules judge policy f) (signer_returned judge policy f))
+      (asked_returned policy.against_list (ca_rules policy f) (ca_returned policy f))
 
   pub policy_returned : AreReturnedOnce (policy_rules judge policy f)
-  policy_returned = returned_together first_rules later_rules (asked_returned policy.basic (basic_rules judge f given) (basic_returned f given judge)) later_returned
+  policy_returned =
+      returned_together first_rules later_rules (asked_returned policy.basic (basic_rules judge f given) (basic_returned f given judge)) later_returned
 
   -- ---- trusted signed data breaks none
 
   later_met : (a : Accepted) → IsTrusted judge policy f a → AreMet later_rules
   later_met a t =
-      met_together signer_part ca_part (asked_met policy.signing (signer_rules judge policy f) (λ on. signer_met judge policy f a (t.signing on))) (asked_met policy.against_list (ca_rules policy f) (λ on. ca_met policy f a (t.listed on)))
+      met_together signer_part ca_part (asked_met policy.signing (signer_rules judge policy f) (λ on. signer_met judge policy f a (t.signing on)))
+      (asked_met policy.against_list (ca_rules policy f) (λ on. ca_met policy f a (t.listed on)))
 
   trusted_met : (a : Accepted) → IsTrusted judge policy f a → AreMet (policy_rules judge policy f)
   trusted_met a t =
-      met_together first_rules later_rules (asked_met policy.basic (basic_rules judge f given) (λ on. let v = t.basic on in basic_met f given judge v.place (v.hash, v.given, v.vouches))) (later_met a t)
+      met_together first_rules later_rules (asked_met policy.basic (basic_rules judge f given) (λ on. let v = t.basic on in
+      basic_met f given judge v.place (v.hash, v.given, v.vouches))) (later_met a t)
 
   pub trusted_unbroken : (a : Accepted) (e : AuthenticodeError) → IsTrusted judge policy f a → IsFirstBroken (policy_rules judge policy f) e → ⊥
   trusted_unbroken a e t broken = none_broken (policy_rules judge policy f) (trusted_met a t) e broken
@@ -80,10 +86,12 @@ module _ (judge : Judge) (policy : Policy) (f : SignedDataElements) where
 
   module _ (a b : Accepted) (t : IsTrusted judge policy f a) (u : IsTrusted judge policy f b) where
     same_places : IsBasicallyVouched judge given f a → IsBasicallyVouched judge given f b → a.signer ≡ b.signer
-    same_places v w = v.place_is ∙ ap Some (one_vouched_place f given judge v.place w.place (v.hash, v.given, v.vouches) (w.hash, w.given, w.vouches)) ∙ sym w.place_is
+    same_places v w = v.place_is ∙ ap Some (one_vouched_place f given judge v.place w.place (v.hash, v.given, v.vouches) (w.hash, w.given, w.vouches))
+        ∙ sym w.place_is
 
     same_listed : IsSignerListed policy f a → IsSignerListed policy f b → a.signer ≡ b.signer
-    same_listed v w = v.place_is ∙ ap Some (signer_once f v.bag w.bag v.place w.place v.certificate w.certificate v.is_bag w.is_bag v.is_signer w.is_signer).0 ∙ sym w.place_is
+    same_listed v w = v.place_is ∙ ap Some (signer_once f v.bag w.bag v.place w.place v.certificate w.certificate v.is_bag w.is_bag v.is_signer w.is_signer).0
+        ∙ sym w.place_is
 
     unasked : policy.signing ≡ false → a.signer ≡ b.signer → a ≡ b
     unasked off signer = same_accepted judge policy f a b signer ((t.pathless off).0 ∙ sym (u.pathless off).0) ((t.pathless off).1 ∙ sym (u.pathless off).1)
@@ -127,7 +135,8 @@ module _ (judge : Judge) (policy : Policy) (f : SignedDataElements) where
 
   -- ---- acceptance
 
-  placed : (b : Bool) (returned : Option ℕ) (a : Accepted) → IsPlaceAsked b judge given f returned → b ≡ true → ((place : ℕ) → IsVouchedAt judge given f place → returned ≡ Some place → a.signer ≡ Some place) → IsBasicallyVouched judge given f a
+  placed : (b : Bool) (returned : Option ℕ) (a : Accepted) → IsPlaceAsked b judge given f returned → b ≡ true
+      → ((place : ℕ) → IsVouchedAt judge given f place → returned ≡ Some place → a.signer ≡ Some place) → IsBasicallyVouched judge given f a
   placed true returned a at on signer = record { hash = at.1.0; given = at.1.1; place = at.0; vouches = at.1.2; place_is = signer at.0 at.1 at.2 }
   placed false returned a at on signer = absurd (cc on)
 
@@ -145,12 +154,14 @@ module _ (judge : Judge) (policy : Policy) (f : SignedDataElements) where
 
   -- ---- if the signer's certificate is checked, and if it isn't
 
-  pub signer_on : (b : Bool) (returned : Option ℕ) (r : Result Accepted AuthenticodeError) → b ≡ true → MatchResult r (IsSignerVouched judge policy f) (RefusesAuthenticodeBy (signer_rules judge policy f))
+  pub signer_on : (b : Bool) (returned : Option ℕ) (r : Result Accepted AuthenticodeError) → b ≡ true
+      → MatchResult r (IsSignerVouched judge policy f) (RefusesAuthenticodeBy (signer_rules judge policy f))
       → MatchResult r (IsSignerAsked b judge policy f returned) (RefusesAuthenticodeBy (asked b (signer_rules judge policy f)))
   signer_on true returned r on answer = answer
   signer_on false returned r on answer = absurd cc
 
-  pub signer_off : (b : Bool) (returned : Option ℕ) (path : List ℕ) → b ≡ false → path ≡ [] → IsSignerAsked b judge policy f returned (accepted_with returned path)
+  pub signer_off : (b : Bool) (returned : Option ℕ) (path : List ℕ) → b ≡ false → path ≡ []
+      → IsSignerAsked b judge policy f returned (accepted_with returned path)
   signer_off true returned path off empty = absurd cc
   signer_off false returned path off empty = (refl, empty, refl)
 
@@ -159,16 +170,21 @@ module _ (judge : Judge) (policy : Policy) (f : SignedDataElements) where
   signer_part_met false returned a v = tt
 
   -- the reported index is that of the signer's certificate
-  pub returned_is_signers : (b : Bool) (returned : Option ℕ) (a : Accepted) → IsSignerAsked b judge policy f returned a → IfSome returned (HasSignerAt f) → IfSome a.signer (HasSignerAt f)
-  returned_is_signers true returned a v has = subst (λ (t : Option ℕ). IfSome t (HasSignerAt f)) (sym v.place_is) (v.signer.elements, (v.bag, v.is.is_bag, v.is.is_signer))
+  pub returned_is_signers : (b : Bool) (returned : Option ℕ) (a : Accepted) → IsSignerAsked b judge policy f returned a → IfSome returned (HasSignerAt f)
+      → IfSome a.signer (HasSignerAt f)
+  returned_is_signers true returned a v has =
+      subst (λ (t : Option ℕ). IfSome t (HasSignerAt f)) (sym v.place_is) (v.signer.elements, (v.bag, v.is.is_bag, v.is.is_signer))
   returned_is_signers false returned a v has = subst (λ (t : Option ℕ). IfSome t (HasSignerAt f)) (sym v.0) has
 
-  pub signer_refuses : (returned : Option ℕ) → IsPlaceAsked policy.basic judge given f returned → (e : AuthenticodeError) → RefusesAuthenticodeBy signer_part e → RefusesAuthenticodeBy (policy_rules judge policy f) e
-  signer_refuses returned at e (inl broken) = inl (broken_behind first_rules later_rules e (place_met policy.basic returned at) (broken_before signer_part ca_part e broken))
+  pub signer_refuses : (returned : Option ℕ) → IsPlaceAsked policy.basic judge given f returned → (e : AuthenticodeError) → RefusesAuthenticodeBy signer_part e
+      → RefusesAuthenticodeBy (policy_rules judge policy f) e
+  signer_refuses returned at e (inl broken) =
+      inl (broken_behind first_rules later_rules e (place_met policy.basic returned at) (broken_before signer_part ca_part e broken))
   signer_refuses returned at e (inr memory) = inr memory
 
   module _ (returned : Option ℕ) (a : Accepted) where
-    returned_there : (b : Bool) → IsSignerAsked b judge policy f returned a → (place : ℕ) → IsVouchedAt judge given f place → returned ≡ Some place → a.signer ≡ Some place
+    returned_there : (b : Bool) → IsSignerAsked b judge policy f returned a → (place : ℕ) → IsVouchedAt judge given f place → returned ≡ Some place
+        → a.signer ≡ Some place
     returned_there true v place vouched is = same_signer a v place vouched
     returned_there false v place vouched is = v.0 ∙ is
 
@@ -199,9 +215,11 @@ module _ (judge : Judge) (policy : Policy) (f : SignedDataElements) where
 
         -- ---- and if it is
 
-        pub ca_refuses : (e : AuthenticodeError) → policy.against_list ≡ true → RefusesAuthenticodeBy (ca_rules policy f) e → RefusesAuthenticodeBy (policy_rules judge policy f) e
+        pub ca_refuses : (e : AuthenticodeError) → policy.against_list ≡ true → RefusesAuthenticodeBy (ca_rules policy f) e
+            → RefusesAuthenticodeBy (policy_rules judge policy f) e
         ca_refuses e on (inl broken) =
-            inl (broken_behind first_rules later_rules e (place_met policy.basic returned at) (behind_asked policy.against_list signer_part (ca_rules policy f) e on (signer_part_met policy.signing returned a v) broken))
+            inl (broken_behind first_rules later_rules e (place_met policy.basic returned at)
+            (behind_asked policy.against_list signer_part (ca_rules policy f) e on (signer_part_met policy.signing returned a v) broken))
         ca_refuses e on (inr memory) = inr memory
 
         module _ (place : ℕ) (at_list : IsListedAt policy f place) (on : policy.against_list ≡ true) where
@@ -228,7 +246,15 @@ module _ (judge : Judge) (policy : Policy) (f : SignedDataElements) where
           with_list = record {
             basic = λ basic. placed policy.basic returned (at_place a place) at basic (λ other vouched is. ap Some (same_as other vouched));
             signing = λ signing. vouched_there (vouched_on policy.signing v signing);
-            listed = λ list. record { bag = there.1.0; is_bag = there.1.1; place = place; certificate = there.0; is_signer = there.1.2; place_is = refl; listed = at_list.1 };
+            listed = λ list. record {
+              bag = there.1.0;
+              is_bag = there.1.1;
+              place = place;
+              certificate = there.0;
+              is_signer = there.1.2;
+              place_is = refl;
+              listed = at_list.1;
+            };
             pathless = λ none. pathless_off policy.signing v none;
             placeless = λ basic signing none. absurd (on_or_off policy.against_list on none);
           }
@@ -247,7 +273,8 @@ module _ (judge : Judge) (policy : Policy) (f : SignedDataElements) where
   asked_place true place on at = (place, at, refl)
   asked_place false place on at = absurd cc
 
-  pub asked_refusal : (b : Bool) (e : AuthenticodeError) → b ≡ true → RefusesAuthenticodeBy (basic_rules judge f given) e → RefusesAuthenticodeBy (asked b (basic_rules judge f given)) e
+  pub asked_refusal : (b : Bool) (e : AuthenticodeError) → b ≡ true → RefusesAuthenticodeBy (basic_rules judge f given) e
+      → RefusesAuthenticodeBy (asked b (basic_rules judge f given)) e
   asked_refusal true e on refuses = refuses
   asked_refusal false e on refuses = absurd cc
 

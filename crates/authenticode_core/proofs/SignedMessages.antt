@@ -44,7 +44,8 @@ bit_of a e are same =
     ap (λ (x : DerElement). form_bit (tag_of x)) fits.1.holds
 
 -- the attributes are a constructed element
-pub attributes_bit : (g : SignerElements) (e : DerElement) → ∥ AreSignerFields g × IsSignerInfo (signer_of g) ∥₁ → g.signed_attrs ≡ Some e → form_bit (tag_of e) ≡ 1
+pub attributes_bit : (g : SignerElements) (e : DerElement) → ∥ AreSignerFields g × IsSignerInfo (signer_of g) ∥₁ → g.signed_attrs ≡ Some e
+    → form_bit (tag_of e) ≡ 1
 attributes_bit g e fits same = ∥∥₁_elim fits (bit_prop e) (λ h. bit_of g.signed_attrs e h.0.signed_attrs same)
 
 pub message_of : {V E : Type 0} (now : V → List ℕ) (r : Result V E) (g : SignerElements) (e : DerElement) → g.signed_attrs ≡ Some e
@@ -52,6 +53,7 @@ pub message_of : {V E : Type 0} (now : V → List ℕ) (r : Result V E) (g : Sig
 message_of now (Ok octets) g e same is = is ∙ ap (λ (a : Option DerElement). encoding (set (members_of a))) (sym same)
 message_of now (Err refused) g e same is = is
 
-pub empty_message : {V E : Type 0} (now : V → List ℕ) (r : Result V E) (g : SignerElements) → g.signed_attrs ≡ None → IfOk r (λ octets. now octets ≡ 0x31 ∷ 0 ∷ []) → IfOk r (λ octets. now octets ≡ signed_message g)
+pub empty_message : {V E : Type 0} (now : V → List ℕ) (r : Result V E) (g : SignerElements) → g.signed_attrs ≡ None
+    → IfOk r (λ octets. now octets ≡ 0x31 ∷ 0 ∷ []) → IfOk r (λ octets. now octets ≡ signed_message g)
 empty_message now (Ok octets) g none is = is ∙ sym empty_set ∙ ap (λ (a : Option DerElement). encoding (set (members_of a))) (sym none)
 empty_message now (Err refused) g none is = is

@@ -28,7 +28,10 @@ pub some_places : (bag : List CertificateElements) → NamesTimeStamping bag →
 some_places [] named none = some_place [] named refl
 some_places (c ∷ others) named none = absurd cc
 
-pub listed_or_not : {X : Type 0} (policy : Policy) (bag : List CertificateElements) (list : CertificateTrustList) → option_copied policy.list ≡ Some list → (ca : DerElement) → IsNameAt bag (places_from 0 (length bag)) ca → (r : Result X AuthenticodeError)
-    → MatchResult r (λ _. IsOnList list policy.now ca) (IsFirstBroken (name_rules list policy.now ca)) → MatchResult r (λ _. IsListedToken policy bag) (IsUnlistedStamp policy bag)
-listed_or_not policy bag list is ca named (Ok x) on = λ other some. (ca, named, subst (λ (l : CertificateTrustList). IsOnList l policy.now ca) (given_once (option_copied policy.list) list other is some) on)
+pub listed_or_not : {X : Type 0} (policy : Policy) (bag : List CertificateElements) (list : CertificateTrustList) → option_copied policy.list ≡ Some list
+    → (ca : DerElement) → IsNameAt bag (places_from 0 (length bag)) ca → (r : Result X AuthenticodeError)
+    → MatchResult r (λ _. IsOnList list policy.now ca) (IsFirstBroken (name_rules list policy.now ca))
+    → MatchResult r (λ _. IsListedToken policy bag) (IsUnlistedStamp policy bag)
+listed_or_not policy bag list is ca named (Ok x) on =
+    λ other some. (ca, named, subst (λ (l : CertificateTrustList). IsOnList l policy.now ca) (given_once (option_copied policy.list) list other is some) on)
 listed_or_not policy bag list is ca named (Err e) broken = (list, is, ca, named, broken)

@@ -46,7 +46,8 @@ first_lent (Some first) lent elem given e is found = (found.0, ap members_of (sy
 
 -- ---- the token in it
 
-unsigned_are : (f t : SignedDataElements) (g : SignerElements) → (has : HasToken f t) → IsFirstSigner f g → members_of g.unsigned_attrs ≡ has.attribute ∷ has.attributes
+unsigned_are : (f t : SignedDataElements) (g : SignerElements) → (has : HasToken f t) → IsFirstSigner f g
+    → members_of g.unsigned_attrs ≡ has.attribute ∷ has.attributes
 unsigned_are f t g has first = ap (λ (x : SignerElements). members_of x.unsigned_attrs) (signer_once f g has.g first has.signer) ∙ has.unsigned
 
 pub no_attribute : (f t : SignedDataElements) (g : SignerElements) → IsFirstSigner f g → members_of g.unsigned_attrs ≡ [] → HasToken f t → ⊥
@@ -54,10 +55,12 @@ no_attribute f t g first none has =
     let both : [] ≡ has.attribute ∷ has.attributes = sym none ∙ unsigned_are f t g has first in
     absurd cc
 
-module _ (f t : SignedDataElements) (g : SignerElements) (attribute : DerElement) (attributes : List DerElement) (first : IsFirstSigner f g) (unsigned : members_of g.unsigned_attrs ≡ attribute ∷ attributes) where
+module _ (f t : SignedDataElements) (g : SignerElements) (attribute : DerElement) (attributes : List DerElement) (first : IsFirstSigner f g)
+    (unsigned : members_of g.unsigned_attrs ≡ attribute ∷ attributes) where
   stamps_of : (has : HasToken f t) → IsAttributeOf RFC3161_COUNTER_SIGN.now attribute (has.token ∷ has.tokens)
   stamps_of has =
-      subst (λ (x : DerElement). IsAttributeOf RFC3161_COUNTER_SIGN.now x (has.token ∷ has.tokens)) (heads has.attribute attribute has.attributes attributes (sym (unsigned_are f t g has first) ∙ unsigned)) has.stamps
+      subst (λ (x : DerElement). IsAttributeOf RFC3161_COUNTER_SIGN.now x (has.token ∷ has.tokens))
+      (heads has.attribute attribute has.attributes attributes (sym (unsigned_are f t g has first) ∙ unsigned)) has.stamps
 
   pub no_stamps : ((values : List DerElement) → IsAttributeOf RFC3161_COUNTER_SIGN.now attribute values → ⊥) → HasToken f t → ⊥
   no_stamps none has = none (has.token ∷ has.tokens) (stamps_of has)
@@ -70,11 +73,14 @@ module _ (f t : SignedDataElements) (g : SignerElements) (attribute : DerElement
       let both : [] ≡ has.token ∷ has.tokens = sym none ∙ values_are values named has in
       absurd cc
 
-  pub token_is : (values tokens : List DerElement) (token : DerElement) → IsAttributeOf RFC3161_COUNTER_SIGN.now attribute values → values ≡ token ∷ tokens → (has : HasToken f t) → token ≡ has.token
+  pub token_is : (values tokens : List DerElement) (token : DerElement) → IsAttributeOf RFC3161_COUNTER_SIGN.now attribute values → values ≡ token ∷ tokens
+      → (has : HasToken f t) → token ≡ has.token
   token_is values tokens token named are has = heads token has.token tokens has.tokens (sym are ∙ values_are values named has)
 
-pub token_or_none : (r : Option SignedView) (f : SignedDataElements) (g : SignerElements) (attribute token : DerElement) (attributes values tokens : List DerElement) → IsFirstSigner f g → members_of g.unsigned_attrs ≡ attribute ∷ attributes
-    → IsAttributeOf RFC3161_COUNTER_SIGN.now attribute values → values ≡ token ∷ tokens → MatchOption r ((value : Pkcs7Certificate) → token ≢ pkcs7 value) (IsSignedView token)
+pub token_or_none : (r : Option SignedView) (f : SignedDataElements) (g : SignerElements) (attribute token : DerElement)
+    (attributes values tokens : List DerElement) → IsFirstSigner f g → members_of g.unsigned_attrs ≡ attribute ∷ attributes
+    → IsAttributeOf RFC3161_COUNTER_SIGN.now attribute values → values ≡ token ∷ tokens
+    → MatchOption r ((value : Pkcs7Certificate) → token ≢ pkcs7 value) (IsSignedView token)
     → MatchOption r ((t : SignedDataElements) → HasToken f t → ⊥) (λ view. HasToken f (data_elements view))
 token_or_none None f g attribute token attributes values tokens first unsigned named are none = λ t has.
     none has.value (token_is f t g attribute attributes first unsigned values tokens token named are has ∙ has.spelled)

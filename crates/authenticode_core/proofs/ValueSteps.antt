@@ -15,12 +15,17 @@ use Rattle.authenticode_core.specs.declared.error.AuthenticodeError.TheVariants.
 use Rattle.authenticode_core.specs.declared.error.CheckError.{CheckError}
 use Rattle.authenticode_core.specs.declared.error.CheckError.TheVariants.{Authenticode}
 
-refuses : (octets certificate : List ℕ) (source : DerError) (e : CheckError) → contents_in octets ≡ Ok certificate → IsNoSignedData certificate source → e ≡ Authenticode (CertError (Asn1Deserialization Pkcs7 source)) → RefusesValue octets e
-refuses octets certificate source e named cause returned = rw returned (record { certificate = certificate; named = named; source = source; cause = cause; returned = refl })
+refuses : (octets certificate : List ℕ) (source : DerError) (e : CheckError) → contents_in octets ≡ Ok certificate → IsNoSignedData certificate source
+    → e ≡ Authenticode (CertError (Asn1Deserialization Pkcs7 source)) → RefusesValue octets e
+refuses octets certificate source e named cause returned =
+    rw returned (record { certificate = certificate; named = named; source = source; cause = cause; returned = refl })
 
-pub refuses_unread : (octets certificate : List ℕ) (m : Malformed) (e : CheckError) → contents_in octets ≡ Ok certificate → IsMalformedPadded certificate m → e ≡ Authenticode (CertError (Asn1Deserialization Pkcs7 (der.Malformed m))) → RefusesValue octets e
+pub refuses_unread : (octets certificate : List ℕ) (m : Malformed) (e : CheckError) → contents_in octets ≡ Ok certificate → IsMalformedPadded certificate m
+    → e ≡ Authenticode (CertError (Asn1Deserialization Pkcs7 (der.Malformed m))) → RefusesValue octets e
 refuses_unread octets certificate m e named cause returned = refuses octets certificate (der.Malformed m) e named cause returned
 
-pub refuses_shape : (octets certificate : List ℕ) (element : DerElement) (e : CheckError) → contents_in octets ≡ Ok certificate → IsPaddedEncoding certificate element → ((value : Pkcs7Certificate) → element ≢ pkcs7 value)
+pub refuses_shape : (octets certificate : List ℕ) (element : DerElement) (e : CheckError) → contents_in octets ≡ Ok certificate
+    → IsPaddedEncoding certificate element → ((value : Pkcs7Certificate) → element ≢ pkcs7 value)
     → e ≡ Authenticode (CertError (Asn1Deserialization Pkcs7 der.Shape)) → RefusesValue octets e
-refuses_shape octets certificate element e named spelled none returned = refuses octets certificate der.Shape e named (record { element = element; spelled = spelled; none = none }) returned
+refuses_shape octets certificate element e named spelled none returned =
+    refuses octets certificate der.Shape e named (record { element = element; spelled = spelled; none = none }) returned

@@ -7,10 +7,12 @@ use Rattle.authenticode_core.specs.IssuerWalk.{IsWalkFrom, AreOthers, IsIssuerWa
 use Rattle.authenticode_core.specs.Names.{HasSubject}
 use Rattle.authenticode_core.specs.Places.{StandsAt, IsLeastPlace}
 
-not_less : (bag : List CertificateElements) (holds : CertificateElements → Type 0) (from p q : ℕ) (c d : CertificateElements) → IsLeastPlace bag holds from p c → IsLeastPlace bag holds from q d → p < q → ⊥
+not_less : (bag : List CertificateElements) (holds : CertificateElements → Type 0) (from p q : ℕ) (c d : CertificateElements) → IsLeastPlace bag holds from p c
+    → IsLeastPlace bag holds from q d → p < q → ⊥
 not_less bag holds from p q c d a b less = b.least p c a.later less a.stands a.fits
 
-same_place : (bag : List CertificateElements) (holds : CertificateElements → Type 0) (from p q : ℕ) (c d : CertificateElements) → IsLeastPlace bag holds from p c → IsLeastPlace bag holds from q d
+same_place : (bag : List CertificateElements) (holds : CertificateElements → Type 0) (from p q : ℕ) (c d : CertificateElements)
+    → IsLeastPlace bag holds from p c → IsLeastPlace bag holds from q d
     → (p < q) ⊎ (q ≤ p) → (q < p) ⊎ (p ≤ q) → p ≡ q
 same_place bag holds from p q c d a b (inl less) other = absurd (not_less bag holds from p q c d a b less)
 same_place bag holds from p q c d a b (inr more) (inl less) = absurd (not_less bag holds from q p d c b a less)
@@ -23,25 +25,29 @@ same_certificate bag p q c d e a b =
     cc
 
 -- there is one least index, and one certificate at it
-pub least_once : (bag : List CertificateElements) (holds : CertificateElements → Type 0) (from p q : ℕ) (c d : CertificateElements) → IsLeastPlace bag holds from p c → IsLeastPlace bag holds from q d → (p ≡ q) × (d ≡ c)
+pub least_once : (bag : List CertificateElements) (holds : CertificateElements → Type 0) (from p q : ℕ) (c d : CertificateElements)
+    → IsLeastPlace bag holds from p c → IsLeastPlace bag holds from q d → (p ≡ q) × (d ≡ c)
 least_once bag holds from p q c d a b =
     let place = same_place bag holds from p q c d a b (cases_lt p q) (cases_lt q p) in
     (place, same_certificate bag p q c d place a.stands b.stands)
 
-one_walk_from : (bag : List CertificateElements) (from : ℕ) (subject : DerElement) (a b : List ℕ) → IsWalkFrom bag from subject a → IsWalkFrom bag from subject b → a ≡ b
+one_walk_from : (bag : List CertificateElements) (from : ℕ) (subject : DerElement) (a b : List ℕ) → IsWalkFrom bag from subject a
+    → IsWalkFrom bag from subject b → a ≡ b
 one_walk_from bag from subject [] [] w v = refl
 one_walk_from bag from subject [] (q ∷ b) w v = absurd (w q v.0 v.1.later v.1.stands v.1.fits)
 one_walk_from bag from subject (p ∷ a) [] w v = absurd (v p w.0 w.1.later w.1.stands w.1.fits)
 one_walk_from bag from subject (p ∷ a) (q ∷ b) w v =
     let place = same_place bag (HasSubject subject) from p q w.0 v.0 w.1 v.1 (cases_lt p q) (cases_lt q p) in
     let c = same_certificate bag p q w.0 v.0 place w.1.stands v.1.stands in
-    let rest : IsWalkFrom bag (suc p) w.0.tbs.issuer b = subst (λ (n : ℕ). IsWalkFrom bag (suc n) w.0.tbs.issuer b) (sym place) (subst (λ (d : CertificateElements). IsWalkFrom bag (suc q) d.tbs.issuer b) c v.2) in
+    let rest : IsWalkFrom bag (suc p) w.0.tbs.issuer b =
+    subst (λ (n : ℕ). IsWalkFrom bag (suc n) w.0.tbs.issuer b) (sym place) (subst (λ (d : CertificateElements). IsWalkFrom bag (suc q) d.tbs.issuer b) c v.2) in
     ap (λ (n : ℕ). n ∷ a) place ∙ ap (λ (places : List ℕ). q ∷ places) (one_walk_from bag (suc p) w.0.tbs.issuer a b w.2 rest)
 
 pub one_walk : (bag : List CertificateElements) (signer : CertificateElements) (a b : List ℕ) → IsIssuerWalk bag signer a → IsIssuerWalk bag signer b → a ≡ b
 one_walk bag signer a b w v = one_walk_from bag 0 signer.tbs.subject a b w v
 
-pub same_others : (bag : List CertificateElements) (subject : DerElement) (places a b : List ℕ) → AreOthers bag subject places a → AreOthers bag subject places b → a ≡ b
+pub same_others : (bag : List CertificateElements) (subject : DerElement) (places a b : List ℕ) → AreOthers bag subject places a
+    → AreOthers bag subject places b → a ≡ b
 same_others bag subject [] a b p q = p ∙ sym q
 same_others bag subject (place ∷ places) a b (inl p) (inl q) = same_others bag subject places a b p.1 q.1
 same_others bag subject (place ∷ places) a b (inl p) (inr q) = absurd (q.0 p.0)

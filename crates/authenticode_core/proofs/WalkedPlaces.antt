@@ -48,16 +48,24 @@ walked_none bag subject walk looks = record {
 
 -- ---- one more index
 
-joined_more : (bag : List CertificateElements) (subject next : DerElement) (places : List ℕ) (from place : ℕ) (c : CertificateElements) → IsLeastPlace bag (HasSubject next) from place c
+joined_more : (bag : List CertificateElements) (subject next : DerElement) (places : List ℕ) (from place : ℕ) (c : CertificateElements)
+    → IsLeastPlace bag (HasSubject next) from place c
     → ((rest : List ℕ) → IsWalkFrom bag from next rest → IsWalkFrom bag 0 subject (places ++ rest))
     → (rest : List ℕ) → IsWalkFrom bag (suc place) c.tbs.issuer rest → IsWalkFrom bag 0 subject ((places ++ place ∷ []) ++ rest)
 joined_more bag subject next places from place c least joined rest w =
     subst (λ (ps : List ℕ). IsWalkFrom bag 0 subject ps) (sym (append_assoc places (place ∷ []) rest)) (joined (place ∷ rest) (c, least, w))
 
 still_among : (bag : List CertificateElements) (places : List ℕ) (place : ℕ) → HasPurposesAmong bag places → HasPurposesAmong bag (places ++ place ∷ [])
-still_among bag places place h = record { place = h.place; among = Contains-append_left places (place ∷ []) h.place h.among; c = h.c; stands = h.stands; purposes = h.purposes }
+still_among bag places place h = record {
+  place = h.place;
+  among = Contains-append_left places (place ∷ []) h.place h.among;
+  c = h.c;
+  stands = h.stands;
+  purposes = h.purposes;
+}
 
-now_among : (bag : List CertificateElements) (places : List ℕ) (place : ℕ) (c : CertificateElements) → StandsAt bag place c → HasPurposes c → HasPurposesAmong bag (places ++ place ∷ [])
+now_among : (bag : List CertificateElements) (places : List ℕ) (place : ℕ) (c : CertificateElements) → StandsAt bag place c → HasPurposes c
+    → HasPurposesAmong bag (places ++ place ∷ [])
 now_among bag places place c stands purposes = record { place = place; among = Contains-push places place; c = c; stands = stands; purposes = purposes }
 
 is_last_at : (place other k : ℕ) → k < 1 → slice_index_or (place ∷ []) k other ≡ other → place ≡ other
@@ -68,23 +76,28 @@ is_last : (place other : ℕ) → Contains (place ∷ []) other → place ≡ ot
 is_last place other last = is_last_at place other last.0 (omega (arith, last.1)) last.2
 
 -- what holds with one more index
-asks_more : (bag : List CertificateElements) (places : List ℕ) (place : ℕ) (c : CertificateElements) (asks : Bool) → StandsAt bag place c → (IsTrue asks → HasPurposesAmong bag places) → IsTrue asks ⊎ HasPurposes c
+asks_more : (bag : List CertificateElements) (places : List ℕ) (place : ℕ) (c : CertificateElements) (asks : Bool) → StandsAt bag place c
+    → (IsTrue asks → HasPurposesAmong bag places) → IsTrue asks ⊎ HasPurposes c
     → HasPurposesAmong bag (places ++ place ∷ [])
 asks_more bag places place c asks stands returned (inl t) = still_among bag places place (returned t)
 asks_more bag places place c asks stands returned (inr purposes) = now_among bag places place c stands purposes
 
-asks_back : (bag : List CertificateElements) (places : List ℕ) (place : ℕ) (c : CertificateElements) (asks : Bool) → StandsAt bag place c → (HasPurposesAmong bag places → IsTrue asks) → (h : HasPurposesAmong bag (places ++ place ∷ []))
+asks_back : (bag : List CertificateElements) (places : List ℕ) (place : ℕ) (c : CertificateElements) (asks : Bool) → StandsAt bag place c
+    → (HasPurposesAmong bag places → IsTrue asks) → (h : HasPurposesAmong bag (places ++ place ∷ []))
     → Contains places h.place ⊎ Contains (place ∷ []) h.place → IsTrue asks ⊎ HasPurposes c
-asks_back bag places place c asks stands returned h (inl among) = inl (returned (record { place = h.place; among = among; c = h.c; stands = h.stands; purposes = h.purposes }))
+asks_back bag places place c asks stands returned h (inl among) =
+    inl (returned (record { place = h.place; among = among; c = h.c; stands = h.stands; purposes = h.purposes }))
 asks_back bag places place c asks stands returned h (inr last) =
     inr (subst HasPurposes (same_certificate bag place h.place c h.c (is_last place h.place last) stands h.stands) h.purposes)
 
-least_here : (bag : List CertificateElements) (holds : CertificateElements → Type 0) (place : ℕ) (c : CertificateElements) → StandsAt bag place c → holds c → IsLeastPlace bag holds place place c
+least_here : (bag : List CertificateElements) (holds : CertificateElements → Type 0) (place : ℕ) (c : CertificateElements) → StandsAt bag place c → holds c
+    → IsLeastPlace bag holds place place c
 least_here bag holds place c stands fits =
     record { later = omega arith; stands = stands; fits = fits; least = λ other d later before at is. absurd (omega (arith, later, before)) }
 
 -- the certificate at the index is the next one of the walk
-walked_more : (bag : List CertificateElements) (subject : DerElement) (walk next : IssuerWalk) (asks asks' : Bool) (c : CertificateElements) (w : Walked bag subject walk asks) → StandsAt bag w.from c → HasSubject w.next c
+walked_more : (bag : List CertificateElements) (subject : DerElement) (walk next : IssuerWalk) (asks asks' : Bool) (c : CertificateElements)
+    (w : Walked bag subject walk asks) → StandsAt bag w.from c → HasSubject w.next c
     → LooksFrom next bag (suc w.from) c.tbs.issuer → IsTrue asks' ↔ (IsTrue asks ⊎ HasPurposes c) → Walked bag subject next asks'
 walked_more bag subject walk next asks asks' c w stands fits looks asked = record {
   places = w.places ++ w.from ∷ [];
@@ -100,14 +113,16 @@ walked_more bag subject walk next asks asks' c w stands fits looks asked = recor
 
 -- ---- a skipped index
 
-apart : (bag : List CertificateElements) (subject : DerElement) (from place : ℕ) (c d : CertificateElements) → StandsAt bag from c → (HasSubject subject c → ⊥) → from ≤ place → StandsAt bag place d → HasSubject subject d
+apart : (bag : List CertificateElements) (subject : DerElement) (from place : ℕ) (c d : CertificateElements) → StandsAt bag from c → (HasSubject subject c → ⊥)
+    → from ≤ place → StandsAt bag place d → HasSubject subject d
     → (from < place) ⊎ (place ≤ from) → suc from ≤ place
 apart bag subject from place c d stands other later at fits (inl less) = omega (arith, less)
 apart bag subject from place c d stands other later at fits (inr more) =
     let same : from ≡ place = omega (arith, later, more) in
     absurd (other (subst (HasSubject subject) (same_certificate bag from place c d same stands at) fits))
 
-behind : (bag : List CertificateElements) (subject : DerElement) (from : ℕ) (c : CertificateElements) (rest : List ℕ) → StandsAt bag from c → (HasSubject subject c → ⊥) → IsWalkFrom bag (suc from) subject rest → IsWalkFrom bag from subject rest
+behind : (bag : List CertificateElements) (subject : DerElement) (from : ℕ) (c : CertificateElements) (rest : List ℕ) → StandsAt bag from c
+    → (HasSubject subject c → ⊥) → IsWalkFrom bag (suc from) subject rest → IsWalkFrom bag from subject rest
 behind bag subject from c [] stands other none =
     λ place d later at fits. none place d (apart bag subject from place c d stands other later at fits (cases_lt from place)) at fits
 behind bag subject from c (place ∷ places) stands other w = (
@@ -121,7 +136,8 @@ behind bag subject from c (place ∷ places) stands other w = (
   w.2,
 )
 
-walked_past : (bag : List CertificateElements) (subject : DerElement) (walk next : IssuerWalk) (asks asks' : Bool) (c : CertificateElements) (w : Walked bag subject walk asks) → StandsAt bag w.from c → (HasSubject w.next c → ⊥)
+walked_past : (bag : List CertificateElements) (subject : DerElement) (walk next : IssuerWalk) (asks asks' : Bool) (c : CertificateElements)
+    (w : Walked bag subject walk asks) → StandsAt bag w.from c → (HasSubject w.next c → ⊥)
     → LooksFrom next bag (suc w.from) w.next → asks' ≡ asks → Walked bag subject next asks'
 walked_past bag subject walk next asks asks' c w stands other looks same = record {
   places = w.places;
@@ -132,17 +148,20 @@ walked_past bag subject walk next asks asks' c w stands other looks same = recor
   asks_is = subst (λ (b : Bool). IsTrue b ↔ HasPurposesAmong bag w.places) (sym same) w.asks_is;
 }
 
-pub walked_step : (bag : List CertificateElements) (subject : DerElement) (walk next : IssuerWalk) (asks asks' on_walk : Bool) (c : CertificateElements) (w : Walked bag subject walk asks) → StandsAt bag w.from c
+pub walked_step : (bag : List CertificateElements) (subject : DerElement) (walk next : IssuerWalk) (asks asks' on_walk : Bool) (c : CertificateElements)
+    (w : Walked bag subject walk asks) → StandsAt bag w.from c
     → GoesPast next bag w.from w.next c on_walk → AsksNext asks on_walk c asks' → Walked bag subject next asks'
 walked_step bag subject walk next asks asks' true c w stands goes asked = walked_more bag subject walk next asks asks' c w stands goes.0 goes.1 asked
 walked_step bag subject walk next asks asks' false c w stands goes same = walked_past bag subject walk next asks asks' c w stands goes.0 goes.1 same
 
 -- ---- the end
 
-pub walked_all : (bag : List CertificateElements) (signer : CertificateElements) (walk : IssuerWalk) (asks : Bool) → ((from : ℕ) (x : DerElement) → LooksFrom walk bag from x → IsWalkFrom bag from x [])
+pub walked_all : (bag : List CertificateElements) (signer : CertificateElements) (walk : IssuerWalk) (asks : Bool)
+    → ((from : ℕ) (x : DerElement) → LooksFrom walk bag from x → IsWalkFrom bag from x [])
     → Walked bag signer.tbs.subject walk asks → IsTrue asks ↔ AsksForPurposes bag signer
 walked_all bag signer walk asks ends w =
-    let whole : IsIssuerWalk bag signer w.places = subst (λ (ps : List ℕ). IsWalkFrom bag 0 signer.tbs.subject ps) (append-nil w.places) (w.joined [] (ends w.from w.next w.looks)) in (
+    let whole : IsIssuerWalk bag signer w.places =
+    subst (λ (ps : List ℕ). IsWalkFrom bag 0 signer.tbs.subject ps) (append-nil w.places) (w.joined [] (ends w.from w.next w.looks)) in (
       λ t.
           let h = w.asks_is.0 t in
           record { places = w.places; walk = whole; place = h.place; among = h.among; c = h.c; stands = h.stands; purposes = h.purposes },

@@ -7,7 +7,8 @@ use Rattle.cms_types.specs.SignerElements.{SignerElements}
 use Rattle.der_core.specs.DerElement.{DerElement}
 use Rattle.der_core.specs.Rules.{Rule}
 use Rattle.authenticode_core.specs.SameElements.{IsSameElement}
-use Rattle.authenticode_core.specs.SignedFields.{HasVersion, HasSignedContent, HasIndirectData, IndirectData, IsFirstAlgorithm, IsFirstSigner, digest_algorithms_of, signers_of}
+use Rattle.authenticode_core.specs.SignedFields.{HasVersion, HasSignedContent, HasIndirectData, IndirectData}
+use Rattle.authenticode_core.specs.SignedFields.{IsFirstAlgorithm, IsFirstSigner, digest_algorithms_of, signers_of}
 use Rattle.authenticode_core.specs.declared.error.AuthenticodeError.{AuthenticodeError}
 use Rattle.authenticode_core.specs.declared.error.AuthenticodeError.TheVariants as errors
 

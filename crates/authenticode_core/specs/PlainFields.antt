@@ -6,7 +6,8 @@ use Rattle.cms_types.specs.SignedDataElements.{SignedDataElements}
 use Rattle.cms_types.specs.SignerElements.{SignerElements}
 use Rattle.der_core.specs.Elements.{set, octet_string}
 use Rattle.authenticode_core.specs.Asn1.{context}
-use Rattle.authenticode_core.specs.PlainForm.{PlainParts, SignerParts, algorithm, plain_attributes, plain_certificate, plain_content_info, image_data, plain_issuer_and_serial_number, plain_message, plain_signer_info}
+use Rattle.authenticode_core.specs.PlainForm.{PlainParts, SignerParts, algorithm, plain_attributes, plain_certificate, plain_content_info}
+use Rattle.authenticode_core.specs.PlainForm.{image_data, plain_issuer_and_serial_number, plain_message, plain_signer_info}
 use Rattle.key_core.specs.Verifying.{Judge}
 use Rattle.sig_core.specs.declared.algorithm.SigAlg.TheVariants.{RsaSha256}
 use Rattle.sig_core.specs.declared.scheme.Verdict.TheVariants.{Accept}

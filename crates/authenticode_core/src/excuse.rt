@@ -15,7 +15,7 @@ pub(crate) mod token;
 use crate::accepted::Excuse;
 use crate::authority::authority_name;
 use crate::bag::BagCertificate;
-use crate::bag::certificates::certificate_bag;
+use crate::bag::certificates::{certificate_bag, decide_bag};
 use crate::bag::others::Source;
 use crate::bag::wanted::Wanted;
 use crate::ctl::expect_on_list;
@@ -86,8 +86,7 @@ pub fn first_of_stamping<'a>(token: &SignedView<'a>) -> Option<BagCertificate<'a
     if !names_time_stamping(token) {
         return None;
     }
-    // The bag is read to its end, so that it is known whose first certificate is returned.
-    let _certificates = certificate_bag(token).count();
+    decide_bag(token);
     certificate_bag(token).next()
 }
 

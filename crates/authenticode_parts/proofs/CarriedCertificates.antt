@@ -19,6 +19,8 @@ pub none_left : (rest : List KeptCertificate) → length rest ≡ 0 → rest ≡
 none_left [] e = refl
 none_left (k ∷ others) e = absurd (omega (arith, e))
 
-pub all_kept : (all rest : List KeptCertificate) (members : List CertificateChoices) → AreKept all rest members → length rest ≡ 0 → map certificate_choice members ≡ whole_elements all
+pub all_kept : (all rest : List KeptCertificate) (members : List CertificateChoices) → AreKept all rest members → length rest ≡ 0
+    → map certificate_choice members ≡ whole_elements all
 all_kept all rest members kept e =
-    sym (append-nil (map certificate_choice members)) ∙ ap (λ (ks : List KeptCertificate). map certificate_choice members ++ whole_elements ks) (sym (none_left rest e)) ∙ kept
+    sym (append-nil (map certificate_choice members))
+    ∙ ap (λ (ks : List KeptCertificate). map certificate_choice members ++ whole_elements ks) (sym (none_left rest e)) ∙ kept

@@ -18,14 +18,16 @@ use Rattle.authenticode_parts.specs.MadeSignature.{attributes_element}
 use Rattle.der_core.proofs.Inner.{refuses_last}
 
 -- the attributes with their element, which is within limits
-abbrev some_value : (list : List Attribute) (kept : KeptElement) → AreDer (inner_attributes list) → kept.element ≡ attributes_element (map attribute list) → SignedAttributes
+abbrev some_value : (list : List Attribute) (kept : KeptElement) → AreDer (inner_attributes list) → kept.element ≡ attributes_element (map attribute list)
+    → SignedAttributes
 some_value list kept der is = record {
   element = kept;
   list = list;
   are = ∣ subst (λ (e : DerElement). AreAttributes e list) (sym is) (attribute_lists.spelled list der) ∣₁;
 }
 
-never_shape : (list : List Attribute) (kept : KeptElement) (e : DerError) → AreDer (inner_attributes list) → kept.element ≡ attributes_element (map attribute list)
+never_shape : (list : List Attribute) (kept : KeptElement) (e : DerError) → AreDer (inner_attributes list)
+    → kept.element ≡ attributes_element (map attribute list)
     → RefusesShape (λ (value : SignedAttributes). kept.element ≡ signed_attributes value) e → (xs : List DerElement) → RefusesInner xs e
 never_shape list kept errors.Shape der is none xs = absurd (none (some_value list kept der is) refl)
 never_shape list kept errors.Memory der is none xs = tt
@@ -34,9 +36,11 @@ never_shape list kept errors.TooDeep der is none xs = absurd none
 never_shape list kept errors.TooLong der is none xs = absurd none
 
 -- reading the element that is written gives the attributes
-pub kept_or_refused : (list : List Attribute) (kept : KeptElement) (at : DerElement) (r : Result SignedAttributes DerError) → AreDer (inner_attributes list) → kept.element ≡ attributes_element (map attribute list) → at ≡ kept.element
+pub kept_or_refused : (list : List Attribute) (kept : KeptElement) (at : DerElement) (r : Result SignedAttributes DerError) → AreDer (inner_attributes list)
+    → kept.element ≡ attributes_element (map attribute list) → at ≡ kept.element
     → MatchResult r (λ value. at ≡ signed_attributes value) (RefusesShape (λ (value : SignedAttributes). at ≡ signed_attributes value))
-    → MatchResult r (λ value. (signed_attributes value ≡ attributes_element (map attribute list)) × AreDer (inner_attributes list ++ attributes_element (map attribute list) ∷ []))
+    → MatchResult r (λ value. (signed_attributes value ≡ attributes_element (map attribute list))
+    × AreDer (inner_attributes list ++ attributes_element (map attribute list) ∷ []))
     (RefusesInner (inner_attributes list ++ attributes_element (map attribute list) ∷ []))
 kept_or_refused list kept at (Ok value) der is same read = (
   sym read ∙ same ∙ is,
@@ -56,7 +60,8 @@ behind_opus opus element (Ok value) der kept = (kept.0, (der, kept.1))
 behind_opus opus element (Err e) der refused = refuses_last (opus ∷ []) (element ∷ []) e (der, tt) refused
 
 -- those of a program's signature, after what is said about the program
-pub listed_or_refused : (list : List Attribute) (info opus : DerElement) (digest : List ℕ) (r : Result SignedAttributes DerError) → map attribute list ≡ program_attributes info digest → inner_attributes list ≡ [] → info ≡ opus → IsDer opus
+pub listed_or_refused : (list : List Attribute) (info opus : DerElement) (digest : List ℕ) (r : Result SignedAttributes DerError)
+    → map attribute list ≡ program_attributes info digest → inner_attributes list ≡ [] → info ≡ opus → IsDer opus
     → Answers (inner_attributes list) (attributes_element (map attribute list)) r → Answers (opus ∷ []) (attributes_element (program_attributes opus digest)) r
 listed_or_refused list info opus digest r are inner same der kept =
     let elements : attributes_element (map attribute list) ≡ attributes_element (program_attributes opus digest) =

@@ -18,10 +18,12 @@ pub issuer_is : (kept : KeptCertificate) → kept.elements.tbs.issuer ≡ name k
 issuer_is kept = ∥∥₁_elim kept.spelled (Coded-set coded_element kept.elements.tbs.issuer (name kept.certificate.tbs_certificate.issuer)) (λ are. are.tbs.issuer)
 
 pub serial_is : (kept : KeptCertificate) → kept.elements.tbs.serial_number ≡ integer_contents kept.certificate.tbs_certificate.serial_number
-serial_is kept = ∥∥₁_elim kept.spelled (octets-set kept.elements.tbs.serial_number (integer_contents kept.certificate.tbs_certificate.serial_number)) (λ are. are.tbs.serial_number)
+serial_is kept = ∥∥₁_elim kept.spelled (octets-set kept.elements.tbs.serial_number (integer_contents kept.certificate.tbs_certificate.serial_number))
+    (λ are. are.tbs.serial_number)
 
 -- copies of both identify it
-pub names_it : (kept : KeptCertificate) (issuer : List (List AttributeTypeAndValue)) (serial_number : IntegerAsn1) → issuer ≡ kept.certificate.tbs_certificate.issuer → serial_number ≡ kept.certificate.tbs_certificate.serial_number
+pub names_it : (kept : KeptCertificate) (issuer : List (List AttributeTypeAndValue)) (serial_number : IntegerAsn1)
+    → issuer ≡ kept.certificate.tbs_certificate.issuer → serial_number ≡ kept.certificate.tbs_certificate.serial_number
     → issuer_and_serial_number (record { issuer = issuer; serial_number = serial_number }) ≡ issuer_and_serial_of kept.elements
 names_it kept issuer serial_number same same' =
     ap (λ (e : DerElement). sequence (e ∷ Primitive 0x02 (integer_contents serial_number) ∷ [])) (ap name same ∙ sym (issuer_is kept))

@@ -1,5 +1,6 @@
 -- A signature file as made is accepted under basic validation alone.
-use Rattle.std.proofs.Common.{◌≡◌, ℕ, ◌-◌, List, [], ◌∷◌, ◌++◌, Option, Result, Ok, Err, IfOk, MatchResult, map, length, take, inl, inr, refl, sym, ap, subst, ◌∙◌, arith, append-nil}
+use Rattle.std.proofs.Common.{◌≡◌, ℕ, ◌-◌, List, [], ◌∷◌, ◌++◌, Option, Result, Ok, Err, IfOk, MatchResult}
+use Rattle.std.proofs.Common.{map, length, take, inl, inr, refl, sym, ap, subst, ◌∙◌, arith, append-nil}
 use Rattle.std.specs.Prelude.{replicate, slice_range}
 use Rattle.std.specs.Int.{next_multiple_of}
 use Rattle.std.proofs.Math.Seq.{take-append_seam}
@@ -71,15 +72,24 @@ two a b x y e = (cc, cc)
 contents : (s t : List ℕ) → Primitive 0x02 s ≡ Primitive 0x02 t → s ≡ t
 contents s t e = cc
 
-named_by : (signers : List DerElement) (s : SignerInfo) (c : CertificateElements) → signers ≡ signer_info s ∷ [] → (sid : SignerIdentifier) → s.sid ≡ sid → signer_identifier sid ≡ issuer_and_serial_of c → IsNamedByFirst signers c
+named_by : (signers : List DerElement) (s : SignerInfo) (c : CertificateElements) → signers ≡ signer_info s ∷ [] → (sid : SignerIdentifier) → s.sid ≡ sid
+    → signer_identifier sid ≡ issuer_and_serial_of c → IsNamedByFirst signers c
 named_by signers s c one (named.IssuerAndSerialNumber v) sid is =
     let parts = two (name v.issuer) c.tbs.issuer (Primitive 0x02 (integer_contents v.serial_number)) (Primitive 0x02 c.tbs.serial_number) is in
-    record { signer = s; others = []; first = one; value = v; sid = sid; has = (ap encoding parts.0, contents (integer_contents v.serial_number) c.tbs.serial_number parts.1) }
+    record {
+      signer = s;
+      others = [];
+      first = one;
+      value = v;
+      sid = sid;
+      has = (ap encoding parts.0, contents (integer_contents v.serial_number) c.tbs.serial_number parts.1);
+    }
 named_by signers s c one (named.SubjectKeyIdentifier octets) sid is = absurd cc
 
 -- ---- other attributes
 
-other_attribute : (oid : List ℕ) (value : DerElement) → (oid ≡ MESSAGE_DIGEST.now → ⊥) → (values : List DerElement) → IsAttributeOf MESSAGE_DIGEST.now (attribute_by oid value) values → ⊥
+other_attribute : (oid : List ℕ) (value : DerElement) → (oid ≡ MESSAGE_DIGEST.now → ⊥) → (values : List DerElement)
+    → IsAttributeOf MESSAGE_DIGEST.now (attribute_by oid value) values → ⊥
 other_attribute oid value other values e =
     let same : oid ≡ MESSAGE_DIGEST.now = cc in
     other same
@@ -92,7 +102,8 @@ opus_info_differs e = absurd cc
 
 -- ---- the signed data vouches for the digest
 
-module _ (judge : Judge) (p : Program) (first : CertificateElements) (others : List CertificateElements) (value : Pkcs7Certificate) (m : IsMadeFor judge p first others value) where
+module _ (judge : Judge) (p : Program) (first : CertificateElements) (others : List CertificateElements) (value : Pkcs7Certificate)
+    (m : IsMadeFor judge p first others value) where
   abbrev bag : List CertificateElements
   bag = first ∷ others
 
@@ -112,7 +123,8 @@ module _ (judge : Judge) (p : Program) (first : CertificateElements) (others : L
   determined_signer_made = record { signed_attrs = refl; signature_algorithm = λ e. omega (arith, e) }
 
   found : (s : SignerInfo) × (signer_info s ≡ signer_of signer)
-  found = one_signer value.signed_data.signers_infos (signer_of signer) (sym (listed-row (map signer_info value.signed_data.signers_infos)) ∙ ap signers_of m.fields)
+  found = one_signer value.signed_data.signers_infos (signer_of signer) (sym (listed-row (map signer_info value.signed_data.signers_infos))
+      ∙ ap signers_of m.fields)
 
   found_as : signer_elements found.0 ≡ signer
   found_as = same_signer (signer_elements found.0) signer (determined_signer found.0) determined_signer_made found.1
@@ -183,13 +195,22 @@ module _ (judge : Judge) (p : Program) (first : CertificateElements) (others : L
 
 -- ---- what is checked of it
 
-pub trusted : (judge : Judge) (policy : Policy) (f : SignedDataElements) (file_hash : List ℕ) → IsBasicAlone policy file_hash → VouchesFor judge f file_hash 0 → IsTrusted judge policy f by_the_first
+pub trusted : (judge : Judge) (policy : Policy) (f : SignedDataElements) (file_hash : List ℕ) → IsBasicAlone policy file_hash → VouchesFor judge f file_hash 0
+    → IsTrusted judge policy f by_the_first
 trusted judge policy f file_hash asked vouched = record {
   basic = λ on. record { hash = file_hash; given = asked.given; place = 0; vouches = vouched; place_is = refl };
   signing = λ on. absurd (cc (on, asked.signing));
   listed = λ on.
       let s = vouched.signed in
-      record { bag = s.bag; is_bag = s.is_bag; place = 0; certificate = s.certificate; is_signer = s.is_signer; place_is = refl; listed = λ list some. absurd (cc (asked.listless, some)) };
+      record {
+        bag = s.bag;
+        is_bag = s.is_bag;
+        place = 0;
+        certificate = s.certificate;
+        is_signer = s.is_signer;
+        place_is = refl;
+        listed = λ list some. absurd (cc (asked.listless, some));
+      };
   pathless = λ off. (refl, refl);
   placeless = λ off also none. absurd (cc (off, asked.basic));
 }
@@ -215,18 +236,24 @@ contents_of octets w front =
     ∙ ap Ok (the_rest w.certificate front.later)
 
 pub padded_so : (octets : List ℕ) (element : DerElement) → IsDer element → octets ≡ encoding element → IsPaddedEncoding (padded octets) element
-padded_so octets element der is =
-    (der, next_multiple_of (length octets) 8 - length octets, omega arith, ap (λ (o : List ℕ). o ++ replicate (next_multiple_of (length octets) 8 - length octets) 0) is)
+padded_so octets element der is = (
+  der,
+  next_multiple_of (length octets) 8 - length octets,
+  omega arith,
+  ap (λ (o : List ℕ). o ++ replicate (next_multiple_of (length octets) 8 - length octets) 0) is,
+)
 
 -- the signed data of the file, and the certificates that it contains
-module _ (judge : Judge) (policy : Policy) (first : CertificateElements) (others : List CertificateElements) (octets file_hash : List ℕ) (made : IsMadeSignature judge first others octets file_hash) where
+module _ (judge : Judge) (policy : Policy) (first : CertificateElements) (others : List CertificateElements) (octets file_hash : List ℕ)
+    (made : IsMadeSignature judge first others octets file_hash) where
   abbrev made_data : SignedDataElements
   made_data = signed_data_elements made.value.signed_data
 
   held : HasSignedData octets made_data
   held = record {
     certificate = padded (encoding (pkcs7 made.value));
-    named = contents_of octets (with_padding (wrapped made.kind (encoding (pkcs7 made.value)))) (begins_so octets (wrapped made.kind (encoding (pkcs7 made.value))) made.file);
+    named = contents_of octets (with_padding (wrapped made.kind (encoding (pkcs7 made.value))))
+        (begins_so octets (wrapped made.kind (encoding (pkcs7 made.value))) made.file);
     value = made.value;
     spelled = padded_so (encoding (pkcs7 made.value)) (pkcs7 made.value) made.der refl;
     fields = refl;
@@ -245,7 +272,8 @@ module _ (judge : Judge) (policy : Policy) (first : CertificateElements) (others
   trusted_so (Ok a) answer = subst (λ (f : SignedDataElements). IsTrusted judge policy f a) (one_data octets answer.0 made_data answer.1 held) answer.2
   trusted_so (Err e) answer = tt
 
-  pub checked_so : (r : Result Accepted CheckError) → IsAnswer judge policy octets r → ((other : Result Accepted CheckError) → IsAnswer judge policy octets other → AreOneUnlessMemory Memory r other)
+  pub checked_so : (r : Result Accepted CheckError) → IsAnswer judge policy octets r
+      → ((other : Result Accepted CheckError) → IsAnswer judge policy octets other → AreOneUnlessMemory Memory r other)
       → IsCheckedBy judge policy (first ∷ others) octets file_hash r
   checked_so r answer only = record {
     f = made_data;

@@ -23,7 +23,8 @@ of_algorithm algorithm = record { algorithm = algorithm }
 abbrev unsupported : UnsupportedHashAlgorithmError → AuthenticodeSignatureBuilderError
 unsupported source = errors.AuthenticodeError (signatures.UnsupportedHashAlgorithmError source)
 
-one_hash : (hash : Option HashAlgorithm) (e other : AuthenticodeSignatureBuilderError) → (supported_step hash).refused e → (supported_step hash).refused other → e ≡ other
+one_hash : (hash : Option HashAlgorithm) (e other : AuthenticodeSignatureBuilderError) → (supported_step hash).refused e
+    → (supported_step hash).refused other → e ≡ other
 one_hash hash e other (algorithm, is, (source, returned, (bad, named))) (algorithm', is', (source', returned', (bad', named'))) =
     returned ∙ ap unsupported (ap of_algorithm (named ∙ bad ∙ sym bad' ∙ sym named')) ∙ sym returned'
 
@@ -48,7 +49,8 @@ have_one_error b = (
   ),
 )
 
-pub returned_once : (b : AuthenticodeSignatureBuilder) (e other : AuthenticodeSignatureBuilderError) → IsFirstUntaken (part_steps b) e → IsFirstUntaken (part_steps b) other → e ≡ other
+pub returned_once : (b : AuthenticodeSignatureBuilder) (e other : AuthenticodeSignatureBuilderError) → IsFirstUntaken (part_steps b) e
+    → IsFirstUntaken (part_steps b) other → e ≡ other
 returned_once b e other first second = one_before (part_steps b) [] e other (have_one_error b) first (untaken_before (part_steps b) [] other second)
 
 pub not_returned : (b : AuthenticodeSignatureBuilder) (e : AuthenticodeSignatureBuilderError) → AreTaken (part_steps b) → IsFirstUntaken (part_steps b) e → ⊥

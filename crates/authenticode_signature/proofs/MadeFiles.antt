@@ -58,15 +58,18 @@ rootless_carried (c ∷ d ∷ bag) carried are = alone_or_none carried (none_is_
 
 -- ---- the first of all is the first contained one, unless it is a root
 
-first_carried : (first : CertificateElements) (others carried : List CertificateElements) → AreCarried (first ∷ others) carried → (IsRootCertificate first → others ≡ []) → (more : List CertificateElements) × (carried ≡ first ∷ more)
+first_carried : (first : CertificateElements) (others carried : List CertificateElements) → AreCarried (first ∷ others) carried
+    → (IsRootCertificate first → others ≡ []) → (more : List CertificateElements) × (carried ≡ first ∷ more)
 first_carried first [] carried one root = ([], one)
 first_carried first (d ∷ others) carried (inl (is, are)) root = absurd (cc (root is))
 first_carried first (d ∷ others) carried (inr (other, more, is, are)) root = (more, is)
 
 -- ---- a made signature is as in a signature file
 
-module _ (judge : Judge) (signs : Signs) (pair : Pair) (f : SignedDataElements) (hash : ShaVariant) (file_hash : List ℕ) (name : Option (List ℕ)) (key : PrivateKey) where
-  made_for : (value : Pkcs7Certificate) (m : IsMadeOf (arithmetic judge signs pair) f hash file_hash name key (signed_data_elements value.signed_data)) → IsMadeWith pair key m.first m.others
+module _ (judge : Judge) (signs : Signs) (pair : Pair) (f : SignedDataElements) (hash : ShaVariant) (file_hash : List ℕ) (name : Option (List ℕ))
+    (key : PrivateKey) where
+  made_for : (value : Pkcs7Certificate) (m : IsMadeOf (arithmetic judge signs pair) f hash file_hash name key (signed_data_elements value.signed_data))
+      → IsMadeWith pair key m.first m.others
       → (carried : List CertificateElements) → m.program.carried ≡ m.first ∷ carried → IsMadeFor judge (program_of hash file_hash name) m.first carried value
   made_for value m by carried is =
       let p : Program = program_of hash file_hash name in
@@ -77,9 +80,11 @@ module _ (judge : Judge) (signs : Signs) (pair : Pair) (f : SignedDataElements) 
         supported = m.supported;
         are = subst AreCertificates is (fit_carried bag kept are (fit_in_bag _ bag m.signer.bag));
         rootless = subst IsAloneOrNoRoot is (rootless_carried bag kept are);
-        code_signing = subst (λ (cs : List CertificateElements). IsForCodeSigning cs m.first) is (still_for_code_signing bag kept m.first are m.signer.code_signing);
+        code_signing =
+            subst (λ (cs : List CertificateElements). IsForCodeSigning cs m.first) is (still_for_code_signing bag kept m.first are m.signer.code_signing);
         signature = m.program.signature;
-        fields = subst (λ (cs : List CertificateElements). signed_data_elements value.signed_data ≡ signature_made (parts_for p m.first cs m.program.signature)) is m.program.fields;
+        fields = subst (λ (cs : List CertificateElements). signed_data_elements value.signed_data ≡ signature_made (parts_for p m.first cs m.program.signature))
+            is m.program.fields;
         info = by.info;
         key = by.has;
         accepted = m.program.is_signature.accepted by.info by.pairs;
@@ -87,10 +92,13 @@ module _ (judge : Judge) (signs : Signs) (pair : Pair) (f : SignedDataElements) 
 
   -- the octets are a signature file by the first of these certificates, some of which it contains
   abbrev Carries : List ℕ → CertificateElements → List CertificateElements → Type 0
-  Carries octets first others = (carried : List CertificateElements) × AreCarried (first ∷ others) (first ∷ carried) × IsMadeSignature judge first carried octets file_hash
+  Carries octets first others =
+      (carried : List CertificateElements) × AreCarried (first ∷ others) (first ∷ carried) × IsMadeSignature judge first carried octets file_hash
 
-  made_by : (value : Pkcs7Certificate) (kind : CertificateType) (octets : List ℕ) → IsDer (pkcs7 value) → IsSpelledWhole octets (wrapped kind (encoding (pkcs7 value)))
-      → (m : IsMadeOf (arithmetic judge signs pair) f hash file_hash name key (signed_data_elements value.signed_data)) → IsMadeWith pair key m.first m.others → Carries octets m.first m.others
+  made_by : (value : Pkcs7Certificate) (kind : CertificateType) (octets : List ℕ) → IsDer (pkcs7 value)
+      → IsSpelledWhole octets (wrapped kind (encoding (pkcs7 value)))
+      → (m : IsMadeOf (arithmetic judge signs pair) f hash file_hash name key (signed_data_elements value.signed_data)) → IsMadeWith pair key m.first m.others
+      → Carries octets m.first m.others
   made_by value kind octets der file m by =
       let front = first_carried m.first m.others m.program.carried m.program.are_carried by.carried in (
         front.0,
@@ -118,4 +126,5 @@ module _ (judge : Judge) (signs : Signs) (pair : Pair) (f : SignedDataElements) 
       let same = same_first first m.first others m.others (one_bag _ (first ∷ others) (m.first ∷ m.others) bag m.signer.bag) in
       subst (λ (c : CertificateElements). Carries octets c others) (sym same.0)
       (subst (Carries octets m.first) (sym same.1)
-      (made_by value kind octets der file m (subst (IsMadeWith pair key m.first) same.1 (subst (λ (c : CertificateElements). IsMadeWith pair key c others) same.0 by))))
+      (made_by value kind octets der file m
+      (subst (IsMadeWith pair key m.first) same.1 (subst (λ (c : CertificateElements). IsMadeWith pair key c others) same.0 by))))

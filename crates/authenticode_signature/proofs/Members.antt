@@ -23,39 +23,46 @@ use Rattle.authenticode_core.specs.CertificateBag.{IsBag, IsMember}
 
 -- ---- one member
 
-pub is_member : (element lent : DerElement) (view : CertView) (kept : KeptCertificate) → IsDer element → lent ≡ element → IsCertView lent view → kept_octets kept ≡ encoding element → IsMember element kept.elements
+pub is_member : (element lent : DerElement) (view : CertView) (kept : KeptCertificate) → IsDer element → lent ≡ element → IsCertView lent view
+    → kept_octets kept ≡ encoding element → IsMember element kept.elements
 is_member element lent view kept der e is octets =
     let same : element ≡ certificate_of kept.elements = same_encoded element (certificate_of kept.elements) der kept.der (sym octets) in
     let elements : view_elements view ≡ kept.elements = parts_once (view_elements view) kept.elements (sym is.is ∙ e ∙ same) in
     record { is = same; fits = subst (λ (f : CertificateElements). Fits AreCertificateFields f) elements is.fits }
 
-pub no_member : (element lent : DerElement) → lent ≡ element → ((c : Certificate) → IsCertificate lent c → ⊥) → (f : CertificateElements) → IsMember element f → ⊥
+pub no_member : (element lent : DerElement) → lent ≡ element → ((c : Certificate) → IsCertificate lent c → ⊥) → (f : CertificateElements)
+    → IsMember element f → ⊥
 no_member element lent e none f m = none m.fits.0 (subst (λ (x : DerElement). IsCertificate x m.fits.0) (sym (e ∙ m.is)) (spelled_by f m.fits.0 m.fits.1))
 
 -- ---- several
 
 -- The certificates before the rest are read.
 abbrev pub AreRead : List CertificateChoices → List CertificateChoices → List KeptCertificate → Type 0
-AreRead all rest kept = (bag : List CertificateElements) → IsBag (map certificate_choice rest) bag → IsBag (map certificate_choice all) (elements_of kept ++ bag)
+AreRead all rest kept = (bag : List CertificateElements) → IsBag (map certificate_choice rest) bag
+    → IsBag (map certificate_choice all) (elements_of kept ++ bag)
 
-one_before : (kept kept' : List KeptCertificate) (k : KeptCertificate) (bag : List CertificateElements) → kept' ≡ kept ++ k ∷ [] → elements_of kept ++ k.elements ∷ bag ≡ elements_of kept' ++ bag
+one_before : (kept kept' : List KeptCertificate) (k : KeptCertificate) (bag : List CertificateElements) → kept' ≡ kept ++ k ∷ []
+    → elements_of kept ++ k.elements ∷ bag ≡ elements_of kept' ++ bag
 one_before kept kept' k bag pushed =
     sym (ap (λ (ks : List KeptCertificate). elements_of ks ++ bag) pushed
     ∙ ap (λ (fs : List CertificateElements). fs ++ bag) (map-append (λ (c : KeptCertificate). c.elements) kept (k ∷ []))
     ∙ append_assoc (elements_of kept) (k.elements ∷ []) bag)
 
-pub one_read : (all rest others : List CertificateChoices) (kept kept' : List KeptCertificate) (member : CertificateChoices) (element : DerElement) (k : KeptCertificate) → AreRead all rest kept → rest ≡ member ∷ others
+pub one_read : (all rest others : List CertificateChoices) (kept kept' : List KeptCertificate) (member : CertificateChoices) (element : DerElement)
+    (k : KeptCertificate) → AreRead all rest kept → rest ≡ member ∷ others
     → element ≡ certificate_choice member → IsMember element k.elements → kept' ≡ kept ++ k ∷ [] → AreRead all others kept'
 one_read all rest others kept kept' member element k read e at m pushed bag p =
     let here : IsMember (certificate_choice member) k.elements = subst (λ (x : DerElement). IsMember x k.elements) at m in
-    let more : IsBag (map certificate_choice rest) (k.elements ∷ bag) = subst (λ (r : List CertificateChoices). IsBag (map certificate_choice r) (k.elements ∷ bag)) (sym e) (inr (k.elements, bag, refl, here, p)) in
+    let more : IsBag (map certificate_choice rest) (k.elements ∷ bag) =
+    subst (λ (r : List CertificateChoices). IsBag (map certificate_choice r) (k.elements ∷ bag)) (sym e) (inr (k.elements, bag, refl, here, p)) in
     subst (λ (fs : List CertificateElements). IsBag (map certificate_choice all) fs) (one_before kept kept' k bag pushed) (read (k.elements ∷ bag) more)
 
 empty : (rest : List CertificateChoices) → length rest ≡ 0 → rest ≡ []
 empty [] e = refl
 empty (member ∷ others) e = absurd (omega (arith, e))
 
-pub all_read : (all rest : List CertificateChoices) (kept : List KeptCertificate) → AreRead all rest kept → length rest ≡ 0 → IsBag (map certificate_choice all) (elements_of kept)
+pub all_read : (all rest : List CertificateChoices) (kept : List KeptCertificate) → AreRead all rest kept → length rest ≡ 0
+    → IsBag (map certificate_choice all) (elements_of kept)
 all_read all rest kept read e =
     subst (λ (fs : List CertificateElements). IsBag (map certificate_choice all) fs) (append-nil (elements_of kept))
     (read [] (subst (λ (r : List CertificateChoices). IsBag (map certificate_choice r) []) (sym (empty rest e)) refl))

@@ -19,7 +19,8 @@ use Rattle.authenticode_core.proofs.Padded.{IsFirst-padded}
 use Rattle.authenticode_signature.specs.Unread.{RefusesPadded}
 
 read_or_not : (octets : List ℕ) (element : DerElement) (m : Malformed) → IsPaddedEncoding octets element → IsMalformedPadded octets m → ⊥
-read_or_not octets element m padded (inl fault) = no_fault_where_first octets element (length (encoding element)) m.at m.fault (IsFirst-padded octets element padded) fault
+read_or_not octets element m padded (inl fault) =
+    no_fault_where_first octets element (length (encoding element)) m.at m.fault (IsFirst-padded octets element padded) fault
 read_or_not octets element m padded (inr h) =
     let same = first_once octets element h.1.element (length (encoding element)) m.at (IsFirst-padded octets element padded) h.1.first in
     h.1.unpadded (padded.1, padded.2, ap (drop m.at) padded.3 ∙ drop_at (encoding element) (replicate padded.1 0) m.at same.1)
@@ -40,7 +41,8 @@ unread_for octets m der.TooDeep unread cause = absurd cause
 unread_for octets m der.TooLong unread cause = absurd cause
 unread_for octets m der.Memory unread cause = absurd cause
 
-pub shapeless_for : (octets : List ℕ) (element : DerElement) (source : DerError) → IsPaddedEncoding octets element → IsNoSignedData octets source → der.Shape ≡ source
+pub shapeless_for : (octets : List ℕ) (element : DerElement) (source : DerError) → IsPaddedEncoding octets element → IsNoSignedData octets source
+    → der.Shape ≡ source
 shapeless_for octets element (der.Malformed n) padded cause = absurd (read_or_not octets element n padded cause)
 shapeless_for octets element der.Shape padded cause = refl
 shapeless_for octets element der.TooDeep padded cause = absurd cause
@@ -48,7 +50,8 @@ shapeless_for octets element der.TooLong padded cause = absurd cause
 shapeless_for octets element der.Memory padded cause = absurd cause
 
 -- there is none where signed data is encoded
-pub none_for : (octets : List ℕ) (element : DerElement) (value : Pkcs7Certificate) (source : DerError) → IsPaddedEncoding octets element → element ≡ pkcs7 value → IsNoSignedData octets source → ⊥
+pub none_for : (octets : List ℕ) (element : DerElement) (value : Pkcs7Certificate) (source : DerError) → IsPaddedEncoding octets element → element ≡ pkcs7 value
+    → IsNoSignedData octets source → ⊥
 none_for octets element value (der.Malformed n) padded is cause = read_or_not octets element n padded cause
 none_for octets element value der.Shape padded is cause = cause.none value (one_element octets cause.element element cause.spelled padded ∙ is)
 none_for octets element value der.TooDeep padded is cause = cause
@@ -57,8 +60,10 @@ none_for octets element value der.Memory padded is cause = cause
 
 -- ---- what is read
 
-pub padded_value : (octets : List ℕ) (element : DerElement) (value : Pkcs7Certificate) (r : Result Pkcs7Certificate DerError) → IsPaddedEncoding octets element → element ≡ pkcs7 value
-    → MatchResult r (λ v. element ≡ pkcs7 v) (RefusesShape (λ v. element ≡ pkcs7 v)) → MatchResult r (λ v. IsPaddedEncoding octets (pkcs7 v)) (RefusesPadded octets)
+pub padded_value : (octets : List ℕ) (element : DerElement) (value : Pkcs7Certificate) (r : Result Pkcs7Certificate DerError) → IsPaddedEncoding octets element
+    → element ≡ pkcs7 value
+    → MatchResult r (λ v. element ≡ pkcs7 v) (RefusesShape (λ v. element ≡ pkcs7 v))
+    → MatchResult r (λ v. IsPaddedEncoding octets (pkcs7 v)) (RefusesPadded octets)
 padded_value octets element value (Ok v) padded is same = subst (λ (x : DerElement). IsPaddedEncoding octets x) same padded
 padded_value octets element value (Err (der.Malformed m)) padded is refused = absurd refused
 padded_value octets element value (Err der.Shape) padded is refused = absurd (refused value is)

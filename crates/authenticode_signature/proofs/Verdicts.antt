@@ -33,7 +33,8 @@ use Rattle.authenticode_signature.specs.declared.pkcs7.Pkcs7.{Pkcs7}
 pub lies_there : (octets : List ℕ) (element : DerElement) (signed : Pkcs7) → IsKept octets element → IsKept octets (written signed) → element ≡ written signed
 lies_there octets element signed there kept = one_kept octets element (written signed) there kept
 
-module _ (octets : List ℕ) (element : DerElement) (view : SignedView) (signed : Pkcs7) (there : IsKept octets element) (is : IsSignedView element view) (kept : IsKept octets (written signed)) where
+module _ (octets : List ℕ) (element : DerElement) (view : SignedView) (signed : Pkcs7) (there : IsKept octets element) (is : IsSignedView element view)
+    (kept : IsKept octets (written signed)) where
   same_fields : data_elements view ≡ fields_of signed
   same_fields =
       fields_of_view element view is
@@ -71,7 +72,8 @@ module _ (judge : Judge) (policy : Policy) (element : DerElement) (f : SignedDat
   encodable is e none = no_cause element none.0 is none.1
 
   -- the result of the steps is returned
-  pub answered_behind : (r : Result Accepted AuthenticodeError) → IsDer element → MatchResult r (IsTrusted judge policy f) (RefusesAuthenticodeBy (policy_rules judge policy f)) → IsVerdict judge policy element f r
+  pub answered_behind : (r : Result Accepted AuthenticodeError) → IsDer element
+      → MatchResult r (IsTrusted judge policy f) (RefusesAuthenticodeBy (policy_rules judge policy f)) → IsVerdict judge policy element f r
   answered_behind (Ok a) is trusted = (is, trusted)
   answered_behind (Err e) is (inl broken) = inl (inr (encodable is, broken))
   answered_behind (Err e) is (inr memory) = inr memory
@@ -88,7 +90,8 @@ module _ (judge : Judge) (policy : Policy) (element : DerElement) (f : SignedDat
   not_refused a e is trusted (inl none) = encodable is e none
   not_refused a e is trusted (inr broken) = trusted_unbroken judge policy f a e trusted broken.1
 
-  pub one_verdict : (a b : Result Accepted AuthenticodeError) → IsVerdict judge policy element f a → IsVerdict judge policy element f b → AreOneUnlessMemory errors.Memory a b
+  pub one_verdict : (a b : Result Accepted AuthenticodeError) → IsVerdict judge policy element f a → IsVerdict judge policy element f b
+      → AreOneUnlessMemory errors.Memory a b
   one_verdict (Ok a) (Ok b) p q = inl (ap Ok (one_trusted judge policy f a b p.1 q.1))
   one_verdict (Ok a) (Err e) p (inl broken) = absurd (not_refused a e p.0 p.1 broken)
   one_verdict (Err e) (Ok b) (inl broken) q = absurd (not_refused b e q.0 q.1 broken)

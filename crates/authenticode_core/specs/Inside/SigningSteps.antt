@@ -20,7 +20,8 @@ use Rattle.x509_types.specs.CertificateElements.{CertificateElements}
 use Rattle.x509_types.specs.CertificateView.{view_elements}
 use Rattle.x509_types.specs.Purposes.{NamesPurpose}
 use Rattle.authenticode_core.specs.SignedFields.{HasMessageDigest, IndirectData}
-use Rattle.authenticode_core.specs.SigningRules.{AsksForPurposes, DigestDiffers, HasNoMessageDigest, IsBagOf, IsSignerCertificate, IsUnsupportedDigest, digested_octets}
+use Rattle.authenticode_core.specs.SigningRules.{AsksForPurposes, DigestDiffers, HasNoMessageDigest, IsBagOf}
+use Rattle.authenticode_core.specs.SigningRules.{IsSignerCertificate, IsUnsupportedDigest, digested_octets}
 use Rattle.authenticode_core.specs.declared.error.AuthenticodeError.{AuthenticodeError}
 use Rattle.authenticode_core.specs.declared.error.AuthenticodeError.TheVariants as errors
 use Rattle.authenticode_core.specs.declared.bag.naming.Named.{Named}

@@ -8,6 +8,7 @@ ghost use Rattle.x509_types.specs.CertificateView.{view_elements};
 ghost use Rattle.authenticode_core.specs.BagCursor.{StandsIn};
 ghost use Rattle.authenticode_core.specs.CertificateBag.{IsBag};
 ghost use Rattle.authenticode_core.specs.LeftMembers.{left_members};
+ghost use Rattle.authenticode_core.specs.SigningRules.{IsBagOf};
 ghost use Rattle.authenticode_core.specs.WalkCursor.{LooksFrom};
 
 use crate::bag::Bag;
@@ -25,6 +26,15 @@ pub fn certificate_bag<'a>(signed_data: &SignedView<'a>) -> Bag<'a>
         → StandsIn result bag }
 {
     Bag::of(signed_data.certificates())
+}
+
+/// Tests each member of the certificates of signed data, so that it is decided which of them are
+/// certificates: a contract that speaks of the bag needs it where the code stops before the end. It
+/// doesn't allocate.
+pub(crate) fn decide_bag(signed_data: &SignedView<'_>)
+    ensures { (bag : List CertificateElements) × IsBagOf (data_elements signed_data.now) bag }
+{
+    let _certificates = certificate_bag(signed_data).count();
 }
 
 /// The issuer walk of a certificate over the bag of signed data. It doesn't allocate.

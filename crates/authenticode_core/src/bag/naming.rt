@@ -20,7 +20,7 @@ ghost use Rattle.authenticode_core.specs.SigningRules.{AsksForPurposes, IsBagOf,
 ghost use Rattle.authenticode_core.specs.WalkCursor.{LooksFrom};
 
 use crate::bag::BagCertificate;
-use crate::bag::certificates::{certificate_bag, issuer_walk_of};
+use crate::bag::certificates::{decide_bag, issuer_walk_of};
 use crate::bag::issuer_walk::IssuerWalk;
 use crate::bag::wanted::Wanted;
 use cms_types::{SignedView, SignerView};
@@ -48,7 +48,7 @@ pub fn signer_certificate<'a>(
         (view_elements named.certificate)) }
 {
     let Some((issuer, serial_number)) = signer.issuer_and_serial() else {
-        let _certificates = certificate_bag(signed_data).count();
+        decide_bag(signed_data);
         return None;
     };
     match named_certificate(signed_data, issuer, serial_number) {
@@ -71,7 +71,7 @@ pub(crate) fn named_certificate<'a>(
         (IsNamedAt bag issuer.now serial_number.now) }
 {
     let Some((_, first)) = first_named(signed_data.certificates(), issuer, serial_number) else {
-        let _certificates = certificate_bag(signed_data).count();
+        decide_bag(signed_data);
         return None;
     };
     let walk = issuer_walk_of(signed_data, &first);

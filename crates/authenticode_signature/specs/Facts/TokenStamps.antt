@@ -67,7 +67,8 @@ same_cause signers a b known known' first first' =
     let same = one_first signers first.others first'.others first.signer first'.signer first.first first'.first in
     one_cause (signer_info first'.signer) a b known known' (subst (λ (s : SignerInfo). RefusesToWrite (signer_info s) a) same first.refused) first'.refused
 
-written_once : (signers : List SignerInfo) (attribute : _) (source : DerError) → source ≢ der.Memory → IsFirstUnwritten signers source → CountersignsBy signers attribute → ⊥
+written_once : (signers : List SignerInfo) (attribute : _) (source : DerError) → source ≢ der.Memory → IsFirstUnwritten signers source
+    → CountersignsBy signers attribute → ⊥
 written_once signers attribute source known first by =
     let same = one_first signers first.others by.others first.signer by.signer first.first by.first in
     not_unwritable (signer_info by.signer) (kept_der by.values.items (signer_info by.signer) by.held) source known
@@ -75,16 +76,19 @@ written_once signers attribute source known first by =
 
 -- ---- outcomes
 
-none_stamped : (countersigners signers : List SignerInfo) (a b : SignerInfo) (others others' : List SignerInfo) → (signers ≡ []) ⊎ (countersigners ≡ []) → signers ≡ a ∷ others → countersigners ≡ b ∷ others' → ⊥
+none_stamped : (countersigners signers : List SignerInfo) (a b : SignerInfo) (others others' : List SignerInfo) → (signers ≡ []) ⊎ (countersigners ≡ [])
+    → signers ≡ a ∷ others → countersigners ≡ b ∷ others' → ⊥
 none_stamped countersigners signers a b others others' (inl none) first first' = not_none signers others a none first
 none_stamped countersigners signers a b others others' (inr none) first first' = not_none countersigners others' b none first'
 
-empty_or_unwritten : (countersigners signers : List SignerInfo) (e : CertError) → RefusesTokenStamp countersigners signers errors.TimestampTokenEmpty → RefusesTokenStamp countersigners signers (errors.Asn1DerError e) → ⊥
+empty_or_unwritten : (countersigners signers : List SignerInfo) (e : CertError) → RefusesTokenStamp countersigners signers errors.TimestampTokenEmpty
+    → RefusesTokenStamp countersigners signers (errors.Asn1DerError e) → ⊥
 empty_or_unwritten countersigners signers e (inl none) refused = refused.0 none
 empty_or_unwritten countersigners signers e (inr none) refused =
     let first = refused.1.3 in not_none countersigners first.others first.signer none first.first
 
-one_refusal : (countersigners signers : List SignerInfo) (e f : TimestampError) → RefusesTokenStamp countersigners signers e → RefusesTokenStamp countersigners signers f → f ≡ e
+one_refusal : (countersigners signers : List SignerInfo) (e f : TimestampError) → RefusesTokenStamp countersigners signers e
+    → RefusesTokenStamp countersigners signers f → f ≡ e
 one_refusal countersigners signers errors.TimestampTokenEmpty errors.TimestampTokenEmpty a b = refl
 one_refusal countersigners signers errors.TimestampTokenEmpty (errors.Asn1DerError f) a b = absurd (empty_or_unwritten countersigners signers f a b)
 one_refusal countersigners signers errors.TimestampTokenEmpty (errors.Pkcs7Error f) a b = absurd b
@@ -98,7 +102,8 @@ one_refusal countersigners signers (errors.Asn1DerError e) errors.Memory a b = a
 one_refusal countersigners signers (errors.Pkcs7Error e) f a b = absurd a
 one_refusal countersigners signers errors.Memory f a b = absurd a
 
-refused_or_stamped : (token : Pkcs7) (before after : SignedData) (e : TimestampError) → RefusesTokenStamp (signer_infos_of token) before.signers_infos e → IsStampedBy token before after → ⊥
+refused_or_stamped : (token : Pkcs7) (before after : SignedData) (e : TimestampError) → RefusesTokenStamp (signer_infos_of token) before.signers_infos e
+    → IsStampedBy token before after → ⊥
 refused_or_stamped token before after errors.TimestampTokenEmpty refused is =
     let s = is.stamped in
     none_stamped (signer_infos_of token) before.signers_infos s.signer s.countersigns.signer s.others s.countersigns.others refused s.first s.countersigns.first
@@ -107,6 +112,7 @@ refused_or_stamped token before after (errors.Asn1DerError e) refused is =
 refused_or_stamped token before after (errors.Pkcs7Error e) refused is = refused
 refused_or_stamped token before after errors.Memory refused is = refused
 
-pub one_token_outcome : (token : Pkcs7) (before : SignedData) (e : TimestampError) (outcome : Result SignedData TimestampError) → token_modifies token before (Err e) → token_modifies token before outcome → outcome ≡ Err e
+pub one_token_outcome : (token : Pkcs7) (before : SignedData) (e : TimestampError) (outcome : Result SignedData TimestampError)
+    → token_modifies token before (Err e) → token_modifies token before outcome → outcome ≡ Err e
 one_token_outcome token before e (Ok after) refused is = absurd (refused_or_stamped token before after e refused is)
 one_token_outcome token before e (Err f) refused also = ap Err (one_refusal (signer_infos_of token) before.signers_infos e f refused also)

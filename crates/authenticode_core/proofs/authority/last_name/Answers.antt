@@ -10,7 +10,8 @@ loop-next-preserved c = λ bag places before gives is.
     let so_far = c.loop-next.invariant bag places before gives is in
     let next = c.in-Some.ensures.next bag so_far.behind so_far.gives in
     let named = c.next_name-last.ensures so_far.so_far so_far.is in
-    named_on bag before places c.loop-next.certificates c.next.new.self _ _ so_far c.in-Some.next.place (view_elements c.in-Some.next.certificate) next.0 next.1 next.2 named.0 named.1 named.2
+    named_on bag before places c.loop-next.certificates c.next.new.self _ _ so_far c.in-Some.next.place (view_elements c.in-Some.next.certificate)
+    next.0 next.1 next.2 named.0 named.1 named.2
 
 pub returns : goal.returns
 returns c = λ bag places before gives is.

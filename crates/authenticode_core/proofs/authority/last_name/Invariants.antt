@@ -8,7 +8,8 @@ use Rattle.authenticode_core.proofs.authority.last_name.Given as goal
 
 -- the name is that after the indexes so far, and those of the others are left
 abbrev pub invariant-loop-next : goal.invariant-loop-next
-invariant-loop-next l = (bag : List CertificateElements) (places : List ℕ) (before : DerElement) → GivesPlaces l.initial.certificates bag places → l.name ≡ encoding before → NamedSoFar bag before places l.certificates l.last
+invariant-loop-next l = (bag : List CertificateElements) (places : List ℕ) (before : DerElement) → GivesPlaces l.initial.certificates bag places
+    → l.name ≡ encoding before → NamedSoFar bag before places l.certificates l.last
 
 abbrev pub decreases-loop-next : goal.decreases-loop-next
 decreases-loop-next l = length (unread_members l.certificates)

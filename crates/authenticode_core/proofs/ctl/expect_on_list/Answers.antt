@@ -18,7 +18,8 @@ returns-in_err-expect_listed c = λ ca is.
     let e = c.in_err-expect_listed.field-0.0 in
     let entries = c.in_ok-entries.entries.now in
     let then = subst (λ (n : ℤ). IsFirstBroken (listing_rules entries c.args.name.now n) e) now c.in_err-expect_listed.ensures in
-    rw (p.1, p.2) (not_listed c.args.list.now c.args.now ca entries e c.in_ok-entries.ensures (subst (λ (octets : List ℕ). IsFirstBroken (listing_rules entries octets c.args.now) e) is then))
+    rw (p.1, p.2) (not_listed c.args.list.now c.args.now ca entries e c.in_ok-entries.ensures
+    (subst (λ (octets : List ℕ). IsFirstBroken (listing_rules entries octets c.args.now) e) is then))
 
 pub returns : goal.returns
 returns c = λ ca is.

@@ -23,5 +23,6 @@ returns c = λ bag is.
     let gives = goes_over c.certificate_bag.result bag (c.certificate_bag.ensures.stands bag is) c.certificate_bag.ensures.place in
     let named = c.in-Some-authority_name.ensures bag (places_from 0 (length bag)) gives in
     let now : to_z w64 (of_z w64 c.args.policy.now.now) ≡ c.args.policy.now.now = omega (arith, ints) in
-    let on = subst (λ (n : ℤ). MatchResult c.expect_on_list.result (λ _. IsOnList c.in-Some.list.now n named.0) (IsFirstBroken (name_rules c.in-Some.list.now n named.0))) now (c.expect_on_list.ensures named.0 named.2) in
+    let on = subst (λ (n : ℤ). MatchResult c.expect_on_list.result (λ _. IsOnList c.in-Some.list.now n named.0)
+    (IsFirstBroken (name_rules c.in-Some.list.now n named.0))) now (c.expect_on_list.ensures named.0 named.2) in
     listed_or_not c.args.policy.now bag c.in-Some.list.now (lent c.args.policy.now.list c.in-Some.list c.in-Some.is) named.0 named.1 c.expect_on_list.result on

@@ -4,8 +4,10 @@ use Rattle.authenticode_core.proofs.form.expect_content.Goals as goal
 
 pub unreachable-requires : goal.unreachable-requires
 unreachable-requires c =
-    no_other_content _ c.content_type.result.now c.in-Some.ensures.0 c.in-Some.elem.is.0 c.content_type.ensures.0 c.requires c.content_type.ensures.1 c.in-Some.ensures.1 (c.if-not-is_same.ensures.0 refl) c.in-None.ensures
+    no_other_content _ c.content_type.result.now c.in-Some.ensures.0 c.in-Some.elem.is.0 c.content_type.ensures.0 c.requires c.content_type.ensures.1
+    c.in-Some.ensures.1 (c.if-not-is_same.ensures.0 refl) c.in-None.ensures
 
 pub returns : goal.returns
 returns c =
-    the_content _ c.content_type.result.now c.in-Some.ensures.0 c.in-Some.elem.is.0 c.content_type.ensures.0 c.in-Some-indirect_data_in.content c.requires c.content_type.ensures.1 c.in-Some.ensures.1 (c.if-not-is_same.ensures.0 refl) c.in-Some-indirect_data_in.ensures
+    the_content _ c.content_type.result.now c.in-Some.ensures.0 c.in-Some.elem.is.0 c.content_type.ensures.0 c.in-Some-indirect_data_in.content c.requires
+    c.content_type.ensures.1 c.in-Some.ensures.1 (c.if-not-is_same.ensures.0 refl) c.in-Some-indirect_data_in.ensures

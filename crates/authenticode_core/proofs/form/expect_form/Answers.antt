@@ -13,7 +13,9 @@ returns c =
     record {
       algorithm = algorithm.is.0;
       d = c.in_ok-content.ensures.0;
-      has = has_form (data_elements c.args.signed_data.now) c.in_ok-expect_version.ensures c.in_ok-signer.ensures.0 algorithm.is.0 c.in_ok-algorithm.ensures c.in_ok-content.ensures.0 content c.in_ok-content.ensures.1
-          content.algorithm.whole.now content.algorithm.is.1.1 of_content (signer_elements_at c.in_ok-signer.signer) c.in_ok-signer.ensures.1 c.digest_algorithm.result.now c.digest_algorithm.ensures of_signer;
+      has = has_form (data_elements c.args.signed_data.now) c.in_ok-expect_version.ensures c.in_ok-signer.ensures.0 algorithm.is.0 c.in_ok-algorithm.ensures
+          c.in_ok-content.ensures.0 content c.in_ok-content.ensures.1
+          content.algorithm.whole.now content.algorithm.is.1.1 of_content (signer_elements_at c.in_ok-signer.signer)
+          c.in_ok-signer.ensures.1 c.digest_algorithm.result.now c.digest_algorithm.ensures of_signer;
       content = c.in_ok-content.ensures.1;
     }

@@ -4,8 +4,10 @@ use Rattle.authenticode_core.proofs.form.one_signer.Goals as goal
 
 pub unreachable-requires : goal.unreachable-requires
 unreachable-requires c =
-    no_other_signer (data_elements c.args.signed_data.now) c.signers_infos.result.is.0 c.in-Ok.only.is.0 c.requires c.signers_infos.ensures c.in-Ok.ensures c.in-None.ensures
+    no_other_signer (data_elements c.args.signed_data.now) c.signers_infos.result.is.0 c.in-Ok.only.is.0 c.requires c.signers_infos.ensures c.in-Ok.ensures
+    c.in-None.ensures
 
 pub returns : goal.returns
 returns c =
-    the_signer (data_elements c.args.signed_data.now) c.signers_infos.result.is.0 c.in-Ok.only.is.0 c.in-Some.signer c.signers_infos.ensures c.in-Ok.ensures c.in-Some.ensures
+    the_signer (data_elements c.args.signed_data.now) c.signers_infos.result.is.0 c.in-Ok.only.is.0 c.in-Some.signer c.signers_infos.ensures c.in-Ok.ensures
+    c.in-Some.ensures

@@ -15,11 +15,13 @@ returns-in-Ok c =
     let now : to_z w64 (of_z w64 c.args.policy.now.now) ≡ c.args.policy.now.now = omega (arith, ints) in
     let signer = c.signer_ca-ca.ensures in
     let on = subst (λ (n : ℤ). IsOnList c.in-Some.list.now n signer.0) now (c.in-Ok.ensures signer.0 signer.2) in
-    trusted_by c.args.policy.now (data_elements c.args.signed_data.now) c.in-Some.list.now (lent c.args.policy.now.list c.in-Some.list c.in-Some.is) signer.0 signer.1 (inl on)
+    trusted_by c.args.policy.now (data_elements c.args.signed_data.now) c.in-Some.list.now (lent c.args.policy.now.list c.in-Some.list c.in-Some.is)
+    signer.0 signer.1 (inl on)
 
 pub returns-in-Err : goal.returns-in-Err
 returns-in-Err c =
     let now : to_z w64 (of_z w64 c.args.policy.now.now) ≡ c.args.policy.now.now = omega (arith, ints) in
     let signer = c.signer_ca-ca.ensures in
     let broken = subst (λ (n : ℤ). IsFirstBroken (name_rules c.in-Some.list.now n signer.0) c.in-Err.error) now (c.in-Err.ensures signer.0 signer.2) in
-    excluded_or_not c.args.policy.now (data_elements c.args.signed_data.now) c.in-Some.list.now (lent c.args.policy.now.list c.in-Some.list c.in-Some.is) signer.0 signer.1 c.in-Err.error c.expect_excluded.result broken (c.expect_excluded.ensures signer.0 signer.2)
+    excluded_or_not c.args.policy.now (data_elements c.args.signed_data.now) c.in-Some.list.now (lent c.args.policy.now.list c.in-Some.list c.in-Some.is)
+    signer.0 signer.1 c.in-Err.error c.expect_excluded.result broken (c.expect_excluded.ensures signer.0 signer.2)

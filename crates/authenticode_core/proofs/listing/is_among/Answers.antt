@@ -12,7 +12,8 @@ returns-then-is_named c =
 pub loop-one-preserved : goal.loop-one-preserved
 loop-one-preserved c =
     let less : c.loop-one.one-index < length c.args.names.now = omega arith in
-    none_yet _ c.args.names.now c.loop-one.one-index _ c.one-item.result (omega arith) c.loop-one.invariant (slice_get_read _ _ _ _ refl less c.one-item.is) (iff_false c.is_named.ensures c.if-is_named.false)
+    none_yet _ c.args.names.now c.loop-one.one-index _ c.one-item.result (omega arith) c.loop-one.invariant (slice_get_read _ _ _ _ refl less c.one-item.is)
+    (iff_false c.is_named.ensures c.if-is_named.false)
 
 pub returns : goal.returns
 returns c = not_at_all _ c.args.names.now c.loop-one.one-index c.loop-one.invariant (omega arith)

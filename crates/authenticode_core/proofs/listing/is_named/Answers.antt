@@ -10,4 +10,5 @@ pub returns : goal.returns
 returns c =
     let one = c.args.one.now in
     let asked = c.args.asked.now in
-    subst (λ (t : Bool). IsTrue t ↔ IsNamed (name (sets_of asked)) one) (sym c.eq.ensures.octets) (bytes_eq-Decides (encoding (name (sets_of one))) (encoding (name (sets_of asked))))
+    subst (λ (t : Bool). IsTrue t ↔ IsNamed (name (sets_of asked)) one) (sym c.eq.ensures.octets)
+    (bytes_eq-Decides (encoding (name (sets_of one))) (encoding (name (sets_of asked))))

@@ -19,4 +19,5 @@ unreachable-requires c =
     let e = view_elements c.args.signer.now in
     let walk = some_walk s.0 e.tbs.subject in
     let looks = c.issuer_walk_of.ensures.looks s.0 s.1 in
-    walk_is_some (data_elements c.args.signed_data.now) c.requires.0 e s walk.0 walk.1 (c.in-None.ensures s.0 walk.0 (record { from = 0; subject = e.tbs.subject; looks = looks; walks = walk.1 }))
+    walk_is_some (data_elements c.args.signed_data.now) c.requires.0 e s walk.0 walk.1
+    (c.in-None.ensures s.0 walk.0 (record { from = 0; subject = e.tbs.subject; looks = looks; walks = walk.1 }))

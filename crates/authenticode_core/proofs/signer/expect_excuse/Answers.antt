@@ -10,7 +10,8 @@ use Rattle.authenticode_core.proofs.signer.expect_excuse.Goals as goal
 
 pub returns-then-not-reports_expiry : goal.returns-then-not-reports_expiry
 returns-then-not-reports_expiry g c = λ bag place signer is same breaks.
-    rw c.from.ensures (unbegun_or_memory (g.S.Scheme.judge c.args.scheme.now) c.args.policy.now (data_elements c.args.signed_data.now) bag place signer is c.args.error breaks (λ returns. absurd (false≢true (c.if-not-reports_expiry.ensures.1 returns))))
+    rw c.from.ensures (unbegun_or_memory (g.S.Scheme.judge c.args.scheme.now) c.args.policy.now (data_elements c.args.signed_data.now)
+    bag place signer is c.args.error breaks (λ returns. absurd (false≢true (c.if-not-reports_expiry.ensures.1 returns))))
 
 pub returns-in_err-excuse : goal.returns-in_err-excuse
 returns-in_err-excuse g c = λ bag place signer is same breaks.
@@ -27,8 +28,10 @@ returns-in-Some g c = λ bag place signer is same breaks.
     let f = data_elements c.args.signed_data.now in
     let policy = c.args.policy.now in
     let judge = g.S.Scheme.judge c.args.scheme.now in
-    reason_is_enough judge policy f bag place signer is c.in-Some.excuse (has_expired judge policy f bag place signer is c.args.error breaks (c.if-not-reports_expiry.ensures.0 refl))
-    (subst (λ (x : CertificateElements). HasReason judge policy f bag x c.in-Some.excuse) (sym same) (given _ c.in-Some.excuse _ _ c.in-Some.is (c.in_ok-excuse.ensures bag is.is_bag)))
+    reason_is_enough judge policy f bag place signer is c.in-Some.excuse
+    (has_expired judge policy f bag place signer is c.args.error breaks (c.if-not-reports_expiry.ensures.0 refl))
+    (subst (λ (x : CertificateElements). HasReason judge policy f bag x c.in-Some.excuse) (sym same)
+    (given _ c.in-Some.excuse _ _ c.in-Some.is (c.in_ok-excuse.ensures bag is.is_bag)))
 
 pub returns-in-None : goal.returns-in-None
 returns-in-None g c = λ bag place signer is same breaks.

@@ -6,5 +6,6 @@ use Rattle.der_core.specs.Kept.{KeptElement}
 
 pub returns : goal.returns
 returns c = λ members same.
-    let own : c.in_ok-octets.octets.items ≡ encoding c.args.attributes.now.element.element = c.in_ok-octets.ensures.items ∙ c.as_bytes.ensures ∙ ap (λ (k : KeptElement). encoding k.element) c.element.ensures in
+    let own : c.in_ok-octets.octets.items ≡ encoding c.args.attributes.now.element.element =
+    c.in_ok-octets.ensures.items ∙ c.as_bytes.ensures ∙ ap (λ (k : KeptElement). encoding k.element) c.element.ensures in
     ap (λ (octets : List ℕ). put octets 0 49) (own ∙ ap encoding same)

@@ -10,4 +10,5 @@ pub returns : goal.returns
 returns c =
     let elem = c.in-Some.elem in
     c.from.ensures ∙ c.in_ok-from_elem-in-Some.ensures
-    ∙ same_encoded elem.is.0 (certificate_of c.args.certificate.now.elements) elem.is.1.0 c.args.certificate.now.der (sym c.in-Some.ensures.1 ∙ c.as_bytes.ensures)
+    ∙ same_encoded elem.is.0 (certificate_of c.args.certificate.now.elements) elem.is.1.0 c.args.certificate.now.der
+    (sym c.in-Some.ensures.1 ∙ c.as_bytes.ensures)

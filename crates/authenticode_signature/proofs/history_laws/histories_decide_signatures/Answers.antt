@@ -6,7 +6,10 @@ use Rattle.authenticode_signature.proofs.history_laws.histories_decide_signature
 
 pub returns-clause-trusted : goal.returns-clause-trusted
 returns-clause-trusted c = λ judge history certificates date issuers cert parents file_hash f a s bag vouches. (
-  λ t. (reported judge history certificates date issuers cert parents file_hash f s bag vouches a t, allowed judge history certificates date issuers cert parents file_hash f s bag vouches a t),
+  λ t. (
+    reported judge history certificates date issuers cert parents file_hash f s bag vouches a t,
+    allowed judge history certificates date issuers cert parents file_hash f s bag vouches a t,
+  ),
   λ p. same_trusted judge history certificates date issuers cert parents file_hash f s bag vouches a p.0 p.1,
 )
 

@@ -13,7 +13,8 @@ returns-in_err-wrapped-clause-answer c =
 pub returns-in_err-signature-clause-answer : goal.returns-in_err-signature-clause-answer
 returns-in_err-signature-clause-answer c =
     let p = err_from_is_err_and c.from_residual-in_err-signature.result c.from_residual-in_err-signature.ensures.1 in
-    rw p.1 (unread_file c.args.octets.now c.in_ok-wrapped.wrapped.certificate c.in_err-signature.field-0.0 p.0 p.2 c.in_ok-wrapped.ensures.answer c.in_err-signature.ensures.answer)
+    rw p.1 (unread_file c.args.octets.now c.in_ok-wrapped.wrapped.certificate c.in_err-signature.field-0.0 p.0 p.2 c.in_ok-wrapped.ensures.answer
+    c.in_err-signature.ensures.answer)
 
 pub returns-in_err-wrapped-clause-refused : goal.returns-in_err-wrapped-clause-refused
 returns-in_err-wrapped-clause-refused c = λ source refuses.

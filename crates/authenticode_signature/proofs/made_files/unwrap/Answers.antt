@@ -11,4 +11,5 @@ pub returns-in-Err-clause-answer : goal.returns-in-Err-clause-answer
 returns-in-Err-clause-answer c = returned_so (contents_in c.args.octets.now) c.in-Err.source c.from.result c.from.ensures c.in-Err.ensures.given
 
 pub returns-in-Err-clause-refused : goal.returns-in-Err-clause-refused
-returns-in-Err-clause-refused c = λ source refuses. ap Err (returned_as c.in-Err.source source c.from.result (c.in-Err.ensures.refused source refuses) c.from.ensures)
+returns-in-Err-clause-refused c =
+    λ source refuses. ap Err (returned_as c.in-Err.source source c.from.result (c.in-Err.ensures.refused source refuses) c.from.ensures)

@@ -5,4 +5,5 @@ use Rattle.authenticode_signature.proofs.making.content_for.Goals as goal
 
 pub returns-in-Err : goal.returns-in-Err
 returns-in-Err c =
-    unwritten_as (indirect_data_content c.in_ok-indirect.indirect) (data_element c.args.program.now.hash c.args.program.now.file_hash.now) c.in-Err.source c.from.result c.in_ok-indirect.ensures c.from.ensures c.in-Err.ensures
+    unwritten_as (indirect_data_content c.in_ok-indirect.indirect) (data_element c.args.program.now.hash c.args.program.now.file_hash.now)
+    c.in-Err.source c.from.result c.in_ok-indirect.ensures c.from.ensures c.in-Err.ensures

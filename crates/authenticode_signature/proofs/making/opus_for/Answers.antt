@@ -8,4 +8,5 @@ use Rattle.authenticode_signature.proofs.making.opus_for.Goals as goal
 
 pub returns-in-Err-clause-answer : goal.returns-in-Err-clause-answer
 returns-in-Err-clause-answer c =
-    subst (RefusesBySteps errors.Memory (name_step (option_copied c.args.name) ∷ [])) (sym c.from.ensures) (bad_name (option_copied c.args.name) c.in-Err.source c.in-Err.ensures.answer)
+    subst (RefusesBySteps errors.Memory (name_step (option_copied c.args.name) ∷ [])) (sym c.from.ensures)
+    (bad_name (option_copied c.args.name) c.in-Err.source c.in-Err.ensures.answer)

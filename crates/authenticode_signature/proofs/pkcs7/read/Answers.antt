@@ -13,7 +13,8 @@ pub returns-in_err-elem-clause-shapeless : goal.returns-in_err-elem-clause-shape
 returns-in_err-elem-clause-shapeless c = λ element der is none. absurd (no_fault_where_whole c.args.der.now element _ _ der is c.in_err-elem.ensures)
 
 pub returns-in_default-clause-faulty : goal.returns-in_default-clause-faulty
-returns-in_default-clause-faulty c = λ at fault there. absurd (no_fault_where_whole c.args.der.now _ at fault c.in_ok-elem.elem.is.1.0 c.in_ok-elem.ensures there)
+returns-in_default-clause-faulty c =
+    λ at fault there. absurd (no_fault_where_whole c.args.der.now _ at fault c.in_ok-elem.elem.is.1.0 c.in_ok-elem.ensures there)
 
 pub returns-clause-faulty : goal.returns-clause-faulty
 returns-clause-faulty c = λ at fault there. absurd (no_fault_where_whole c.args.der.now _ at fault c.in_ok-elem.elem.is.1.0 c.in_ok-elem.ensures there)

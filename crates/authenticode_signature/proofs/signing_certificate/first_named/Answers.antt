@@ -7,14 +7,16 @@ use Rattle.authenticode_signature.proofs.signing_certificate.first_named.Goals a
 pub returns-then-branch : goal.returns-then-branch
 returns-then-branch c =
     let less : c.loop-certificate.certificate-index < length c.args.certificates.now = omega arith in
-    found_at c.args.certificates.now _ c.loop-certificate.certificate-index c.certificate-item.result (slice_get_read _ _ _ _ refl less c.certificate-item.is) c.loop-certificate.invariant
+    found_at c.args.certificates.now _ c.loop-certificate.certificate-index c.certificate-item.result (slice_get_read _ _ _ _ refl less c.certificate-item.is)
+    c.loop-certificate.invariant
     (c.in_ok-is_named.ensures.0 c.if-branch.true)
 
 pub loop-certificate-preserved : goal.loop-certificate-preserved
 loop-certificate-preserved c =
     let less : c.loop-certificate.certificate-index < length c.args.certificates.now = omega arith in
     none_yet _ _ c.loop-certificate.certificate-index _ c.certificate-item.result.elements (omega arith) c.loop-certificate.invariant
-    (stands_at c.args.certificates.now _ c.certificate-item.result (slice_get_read _ _ _ _ refl less c.certificate-item.is)) (iff_false c.in_ok-is_named.ensures c.if-branch.false)
+    (stands_at c.args.certificates.now _ c.certificate-item.result (slice_get_read _ _ _ _ refl less c.certificate-item.is))
+    (iff_false c.in_ok-is_named.ensures c.if-branch.false)
 
 pub returns : goal.returns
 returns c = none_at_all c.args.certificates.now _ c.loop-certificate.certificate-index c.loop-certificate.invariant (omega arith)

@@ -8,10 +8,12 @@ use Rattle.authenticode_signature.proofs.signing_certificate.is_named.Goals as g
 
 pub returns-in_ok-issuer_name : goal.returns-in_ok-issuer_name
 returns-in_ok-issuer_name c =
-    is_named_by c.args.named.now c.args.certificate.now c.eq-then-eq.result c.from-issuer.result (sym c.serial_number.ensures ∙ c.eq.ensures.same.0 c.if-eq.true)
+    is_named_by c.args.named.now c.args.certificate.now c.eq-then-eq.result c.from-issuer.result
+    (sym c.serial_number.ensures ∙ c.eq.ensures.same.0 c.if-eq.true)
     (c.from-issuer.ensures ∙ c.in_ok-issuer_name.ensures) c.eq-then-eq.ensures.octets
 
 pub returns-else-eq : goal.returns-else-eq
 returns-else-eq c =
-    let test = c.eq.ensures.value ∙ ap (λ (i : IntegerAsn1). bytes_eq (integer_contents i) (integer_contents c.args.named.now.serial_number)) c.serial_number.ensures in
+    let test =
+    c.eq.ensures.value ∙ ap (λ (i : IntegerAsn1). bytes_eq (integer_contents i) (integer_contents c.args.named.now.serial_number)) c.serial_number.ensures in
     (λ w. absurd (both_ways false refl w), λ by. absurd (is_not_named c.args.named.now c.args.certificate.now c.eq.result test c.if-eq.false by))

@@ -7,7 +7,8 @@ use Rattle.authenticode_core.proofs.bag.Bag.count.Given as goal
 -- the bag of the rest, with as many certificates before it as were counted, is the bag of all
 abbrev pub invariant-loop-next : goal.invariant-loop-next
 invariant-loop-next l = record {
-  all : (others : List CertificateElements) → IsBag l.members.are.0 others → (bag : List CertificateElements) × IsBag (left_members l.self.members) bag × (l.count + length others ≡ length bag);
+  all : (others : List CertificateElements) → IsBag l.members.are.0 others
+      → (bag : List CertificateElements) × IsBag (left_members l.self.members) bag × (l.count + length others ≡ length bag);
   counted : l.count + length l.members.are.0 < 2 ^ 32;
 }
 

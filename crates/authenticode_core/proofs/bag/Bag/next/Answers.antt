@@ -5,7 +5,8 @@ use Rattle.authenticode_core.proofs.bag.Bag.next.Goals as goal
 
 pub returns-in_err-elem-clause-next : goal.returns-in_err-elem-clause-next
 returns-in_err-elem-clause-next c =
-    rw c.from_residual-in_err-elem.ensures (λ bag s. ended c.args.self.now c.in_ok-members.members.are.0 bag (ap left_members c.in_ok-members.was) c.in_err-elem.ensures s)
+    rw c.from_residual-in_err-elem.ensures
+    (λ bag s. ended c.args.self.now c.in_ok-members.members.are.0 bag (ap left_members c.in_ok-members.was) c.in_err-elem.ensures s)
 
 pub returns-clause-stands : goal.returns-clause-stands
 returns-clause-stands c = λ bag s.

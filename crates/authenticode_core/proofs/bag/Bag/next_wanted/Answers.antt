@@ -28,7 +28,9 @@ loop-next-preserved c =
       shorter = omega (arith, c.in-Some.ensures.fewer, invariant.shorter);
       later = omega (arith, invariant.later, places.0, places.1);
       none = λ bag s place d later before at fits.
-          none_yet bag _ _ c.in-Some.next.place _ (λ other e later' before' at' fits'. invariant.none bag s other e later' (omega (arith, before', places.0)) at' fits') (c.in-Some.ensures.next bag (invariant.stands bag s)) (iff_false c.is.ensures c.if-is.false) place d later (omega (arith, before, places.1)) at fits;
+          none_yet bag _ _ c.in-Some.next.place _
+          (λ other e later' before' at' fits'. invariant.none bag s other e later' (omega (arith, before', places.0)) at' fits')
+          (c.in-Some.ensures.next bag (invariant.stands bag s)) (iff_false c.is.ensures c.if-is.false) place d later (omega (arith, before, places.1)) at fits;
     }
 
 pub returns-clause-least : goal.returns-clause-least

@@ -8,7 +8,8 @@ pub loop-next-preserved : goal.loop-next-preserved
 loop-next-preserved c = record {
   begun = λ others p. c.loop-next.invariant.begun _ (c.in-Some.ensures.begins.begun others p);
   passed = λ bag subject looks.
-      passed_step bag subject _ _ _ _ _ _ _ _ _ (λ from x at. c.in-Some.ensures.next bag from x at) c.found_next-found.ensures c.asks_next-asks.ensures (c.loop-next.invariant.passed bag subject looks);
+      passed_step bag subject _ _ _ _ _ _ _ _ _ (λ from x at. c.in-Some.ensures.next bag from x at) c.found_next-found.ensures c.asks_next-asks.ensures
+      (c.loop-next.invariant.passed bag subject looks);
 }
 
 pub loop-next-smaller : goal.loop-next-smaller

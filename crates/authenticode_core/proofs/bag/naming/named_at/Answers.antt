@@ -12,4 +12,5 @@ returns-in_err-certificate c = rw c.from_residual.ensures (λ d m named. no_memb
 pub returns-then-not-is : goal.returns-then-not-is
 returns-then-not-is c = λ d m named.
     iff_false c.is.ensures c.if-not-is.true
-    (subst (IsNamedBy c.args.issuer.now c.args.serial_number.now) (one_certificate d (view_elements c.in_ok-certificate.certificate) (sym m.is ∙ c.in_ok-certificate.ensures.is)) named)
+    (subst (IsNamedBy c.args.issuer.now c.args.serial_number.now)
+    (one_certificate d (view_elements c.in_ok-certificate.certificate) (sym m.is ∙ c.in_ok-certificate.ensures.is)) named)

@@ -6,7 +6,8 @@ use Rattle.authenticode_core.proofs.bag.naming.named_at_place.Goals as goal
 
 pub returns-in_err-elem : goal.returns-in_err-elem
 returns-in_err-elem c =
-    rw c.from_residual.ensures (λ bag is. c.in_err-elem.ensures.first bag (subst (λ (o : Option DerElement). IsBag (members_of o) bag) (sym c.certificates.ensures) is))
+    rw c.from_residual.ensures
+    (λ bag is. c.in_err-elem.ensures.first bag (subst (λ (o : Option DerElement). IsBag (members_of o) bag) (sym c.certificates.ensures) is))
 
 pub returns : goal.returns
 returns c = λ bag is.

@@ -14,5 +14,9 @@ returns-in-Some-found c =
     let bag = walked.ended.0 in
     let is = bag_of (data_elements c.args.signed_data.now) _ bag c.issuer_walk_of-walk.ensures.members walked.ended.1 in
     let looks = c.issuer_walk_of-walk.ensures.looks bag is in
-    let first = c.in-Some.ensures.first bag (subst (λ (o : Option DerElement). IsBag (members_of o) bag) (sym c.certificates.ensures) is) in
-    (bag, is, named_where bag c.args.issuer.now c.args.serial_number.now _ _ _ (view_elements c.in-Some.first) c.in-Some-found.is (walked.found bag _ looks) first (walked.asks bag (view_elements c.in-Some.first) looks))
+    let first = c.in-Some.ensures.first bag (subst (λ (o : Option DerElement). IsBag (members_of o) bag) (sym c.certificates.ensures) is) in (
+      bag,
+      is,
+      named_where bag c.args.issuer.now c.args.serial_number.now _ _ _ (view_elements c.in-Some.first) c.in-Some-found.is (walked.found bag _ looks) first
+          (walked.asks bag (view_elements c.in-Some.first) looks),
+    )

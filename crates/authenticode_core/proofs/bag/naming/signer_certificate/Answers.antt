@@ -1,15 +1,12 @@
 use Rattle.cms_types.specs.SignedView.{data_elements}
 use Rattle.cms_types.specs.SignerView.{signer_elements_at}
-use Rattle.x509_types.specs.CertificateView.{view_elements}
-use Rattle.authenticode_core.proofs.NamedCertificates.{bag_of}
 use Rattle.authenticode_core.proofs.NamedMembers.{named_or_not, least_as, none_as, none_by_key}
 use Rattle.authenticode_core.proofs.bag.naming.signer_certificate.Goals as goal
 
 pub returns-in_default : goal.returns-in_default
 returns-in_default c =
-    let bag = c.count-certificates.ensures in
-    let is = bag_of (data_elements c.args.signed_data.now) _ bag.0 c.certificate_bag.ensures.members bag.1 in
-    (bag.0, is, none_by_key (data_elements c.args.signed_data.now) (signer_elements_at c.args.signer.now) bag.0 c.requires c.in_default.ensures)
+    let bag = c.decide_bag.ensures in
+    (bag.0, bag.1, none_by_key (data_elements c.args.signed_data.now) (signer_elements_at c.args.signer.now) bag.0 c.requires c.in_default.ensures)
 
 pub returns-in-Some-named_certificate : goal.returns-in-Some-named_certificate
 returns-in-Some-named_certificate c =

@@ -5,4 +5,5 @@ use Rattle.authenticode_core.proofs.OnList.{entries_or_not}
 use Rattle.authenticode_core.proofs.ctl.CertificateTrustList.ctl_entries.Goals as goal
 
 pub returns-in-Some : goal.returns-in-Some
-returns-in-Some c = entries_or_not (λ (entries : Bor (List CTLEntry)). entries.now) c.args.self.now c.in-Some.content c.entries_in.result c.in-Some.is c.entries_in.ensures
+returns-in-Some c =
+    entries_or_not (λ (entries : Bor (List CTLEntry)). entries.now) c.args.self.now c.in-Some.content c.entries_in.result c.in-Some.is c.entries_in.ensures

@@ -20,4 +20,5 @@ pub returns-in-Ok-clause-shapeless : goal.returns-in-Ok-clause-shapeless
 returns-in-Ok-clause-shapeless c = λ element der is none. absurd (read_is_not_refused _ _ (c.in-Ok.ensures.shapeless element der is none))
 
 pub returns-in-Err-clause-shapeless : goal.returns-in-Err-clause-shapeless
-returns-in-Err-clause-shapeless c = λ element der is none. ap Err (c.unread.ensures ∙ ap unread_list (source_is _ _ (c.in-Err.ensures.shapeless element der is none)))
+returns-in-Err-clause-shapeless c =
+    λ element der is none. ap Err (c.unread.ensures ∙ ap unread_list (source_is _ _ (c.in-Err.ensures.shapeless element der is none)))

@@ -12,4 +12,5 @@ returns-in_err-first c =
 pub returns : goal.returns
 returns c =
     let f = data_elements c.args.signed_data.now in
-    first_or_none c.read.result f c.in_ok-first.first.is.0 c.in_ok-first.ensures.0 (signers_are f c.signers_infos.result.is.0 c.signers_infos.ensures ∙ c.in_ok-first.ensures.1) c.read.ensures
+    first_or_none c.read.result f c.in_ok-first.first.is.0 c.in_ok-first.ensures.0 (signers_are f c.signers_infos.result.is.0 c.signers_infos.ensures
+    ∙ c.in_ok-first.ensures.1) c.read.ensures

@@ -6,7 +6,8 @@ use Rattle.authenticode_core.proofs.path.Linking.go_on.Goals as goal
 pub returns-in_err-parent : goal.returns-in_err-parent
 returns-in_err-parent g c = λ bag so_far stands.
     let p = err_from_is_err_and c.from_residual.result c.from_residual.ensures.1 in
-    rw (p.1, p.2) (broken_next (g.S.Scheme.judge c.args.scheme.now) c.args.window.now bag c.args.checked.now c.args.self.now _ c.args.next.now.place c.nearest.result.now so_far c.nearest.ensures stands _ (c.in_err-parent.ensures _ so_far.counted))
+    rw (p.1, p.2) (broken_next (g.S.Scheme.judge c.args.scheme.now) c.args.window.now bag c.args.checked.now c.args.self.now _ c.args.next.now.place
+    c.nearest.result.now so_far c.nearest.ensures stands _ (c.in_err-parent.ensures _ so_far.counted))
 
 pub returns-in_err-push : goal.returns-in_err-push
 returns-in_err-push g c = λ bag so_far stands.
@@ -15,7 +16,8 @@ returns-in_err-push g c = λ bag so_far stands.
 
 pub returns : goal.returns
 returns g c = λ bag so_far stands. (
-  linked_next (g.S.Scheme.judge c.args.scheme.now) c.args.window.now bag c.args.checked.now c.args.self.now _ c.args.next.now.place c.nearest.result.now so_far c.nearest.ensures stands _ c.in_ok-parent.parent
+  linked_next (g.S.Scheme.judge c.args.scheme.now) c.args.window.now bag c.args.checked.now c.args.self.now _ c.args.next.now.place c.nearest.result.now so_far
+      c.nearest.ensures stands _ c.in_ok-parent.parent
       (c.in_ok-parent.ensures _ so_far.counted) c.in_ok-push.ensures.ok refl c.saturating_add-self.ensures,
   c.in_ok-push.ensures.ok,
 )

@@ -10,6 +10,7 @@ returns g c = λ members are.
     inl (inl (
       c.in-Err.source,
       c.from-in-Err.ensures ∙ ap builder_refusal c.from.ensures,
-      subst (λ (message : List ℕ). RefusesSignatureBy (sign_rules (g.S.Scheme.signs c.args.scheme.now) (RsaPkcs1v15 c.args.given.now.algorithm) c.args.given.now.key.now message) c.in-Err.source)
+      subst (λ (message : List ℕ). RefusesSignatureBy (sign_rules (g.S.Scheme.signs c.args.scheme.now) (RsaPkcs1v15 c.args.given.now.algorithm)
+          c.args.given.now.key.now message) c.in-Err.source)
           (c.deref.ensures.value ∙ c.in_ok-message.ensures members are) c.in-Err.ensures,
     ))

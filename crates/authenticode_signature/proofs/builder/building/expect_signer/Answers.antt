@@ -16,4 +16,5 @@ returns-in_err-signer c =
 
 pub returns-else-may_sign_code : goal.returns-else-may_sign_code
 returns-else-may_sign_code c =
-    not_for_code (given_of c.args.given.now) c.in_ok-signer.signer.now.elements c.in_ok-signer.ensures (λ may. iff_false c.may_sign_code.ensures c.if-may_sign_code.false may)
+    not_for_code (given_of c.args.given.now) c.in_ok-signer.signer.now.elements c.in_ok-signer.ensures
+    (λ may. iff_false c.may_sign_code.ensures c.if-may_sign_code.false may)

@@ -4,4 +4,5 @@ use Rattle.authenticode_signature.proofs.making.signer.first_signer.Goals as goa
 
 pub returns-else-may_sign_code : goal.returns-else-may_sign_code
 returns-else-may_sign_code c =
-    no_first c.args.bag.now c.in-Some.field-0-1.now c.in-Some.first.now c.in-Some.ensures.cases.0 (λ may. iff_false c.may_sign_code.ensures c.if-may_sign_code.false may)
+    no_first c.args.bag.now c.in-Some.field-0-1.now c.in-Some.first.now c.in-Some.ensures.cases.0
+    (λ may. iff_false c.may_sign_code.ensures c.if-may_sign_code.false may)

@@ -10,4 +10,5 @@ use Rattle.authenticode_signature.proofs.making.signer.may_sign_code.Goals as go
 pub returns : goal.returns
 returns c =
     may_sign c.args.signer.now c.args.certificates.now (items_left c.new.result) c.asks_for_purposes.result c.new.ensures c.asks_for_purposes.ensures
-    (λ names. iff_false c.names.ensures c.if-names.false (subst (λ (f : CertificateElements). NamesPurpose f KP_CODE_SIGNING.now) (sym c.view.ensures.elements) names))
+    (λ names.
+    iff_false c.names.ensures c.if-names.false (subst (λ (f : CertificateElements). NamesPurpose f KP_CODE_SIGNING.now) (sym c.view.ensures.elements) names))

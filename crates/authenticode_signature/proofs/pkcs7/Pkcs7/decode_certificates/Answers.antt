@@ -7,4 +7,5 @@ use Rattle.authenticode_signature.proofs.pkcs7.Pkcs7.decode_certificates.Goals a
 
 pub returns-in-Some : goal.returns-in-Some
 returns-in-Some c =
-    subst (λ (ms : List DerElement). IfOk c.certificates_of.result (λ certificates. IsBag ms (elements_of certificates.items))) (members_in _ _ _ c.as_slice.ensures c.in-Some.is) c.certificates_of.ensures
+    subst (λ (ms : List DerElement). IfOk c.certificates_of.result (λ certificates. IsBag ms (elements_of certificates.items)))
+    (members_in _ _ _ c.as_slice.ensures c.in-Some.is) c.certificates_of.ensures

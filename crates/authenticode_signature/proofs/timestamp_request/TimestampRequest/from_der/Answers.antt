@@ -18,7 +18,9 @@ pub returns-in-Ok-clause-shapeless : goal.returns-in-Ok-clause-shapeless
 returns-in-Ok-clause-shapeless c = λ element der is none. absurd (read_is_not_refused _ _ (c.in-Ok.ensures.shapeless element der is none))
 
 pub returns-in-Err-clause-faulty : goal.returns-in-Err-clause-faulty
-returns-in-Err-clause-faulty c = λ at fault is. ap Err (c.unread.ensures ∙ ap (unread elements.TimestampRequest) (source_is _ _ (c.in-Err.ensures.faulty at fault is)))
+returns-in-Err-clause-faulty c =
+    λ at fault is. ap Err (c.unread.ensures ∙ ap (unread elements.TimestampRequest) (source_is _ _ (c.in-Err.ensures.faulty at fault is)))
 
 pub returns-in-Err-clause-shapeless : goal.returns-in-Err-clause-shapeless
-returns-in-Err-clause-shapeless c = λ element der is none. ap Err (c.unread.ensures ∙ ap (unread elements.TimestampRequest) (source_is _ _ (c.in-Err.ensures.shapeless element der is none)))
+returns-in-Err-clause-shapeless c =
+    λ element der is none. ap Err (c.unread.ensures ∙ ap (unread elements.TimestampRequest) (source_is _ _ (c.in-Err.ensures.shapeless element der is none)))

@@ -20,4 +20,5 @@ pub returns-in-Err-clause-faulty : goal.returns-in-Err-clause-faulty
 returns-in-Err-clause-faulty c = λ at fault is. ap Err (c.from.ensures ∙ ap token_refusal (source_is _ _ (c.in-Err.ensures.faulty at fault is)))
 
 pub returns-in-Err-clause-shapeless : goal.returns-in-Err-clause-shapeless
-returns-in-Err-clause-shapeless c = λ element der is none. ap Err (c.from.ensures ∙ ap token_refusal (source_is _ _ (c.in-Err.ensures.shapeless element der is none)))
+returns-in-Err-clause-shapeless c =
+    λ element der is none. ap Err (c.from.ensures ∙ ap token_refusal (source_is _ _ (c.in-Err.ensures.shapeless element der is none)))

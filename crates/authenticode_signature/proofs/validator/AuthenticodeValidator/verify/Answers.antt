@@ -8,12 +8,14 @@ pub returns-in_err-octets-clause-answer : goal.returns-in_err-octets-clause-answ
 returns-in_err-octets-clause-answer g c =
     let signed = c.args.self.now.signature.now.0 in
     let p = err_from_is_err_and c.from_residual.result c.from_residual.ensures.1 in
-    rw (p.1, p.2) (unencodable (g.S.Scheme.judge c.args.scheme.now) c.args.self.now.policy (written signed) (fields_of signed) c.in_err-octets.field-0.0 c.in_err-octets.ensures)
+    rw (p.1, p.2) (unencodable (g.S.Scheme.judge c.args.scheme.now) c.args.self.now.policy (written signed) (fields_of signed)
+    c.in_err-octets.field-0.0 c.in_err-octets.ensures)
 
 pub returns-in_err-octets-clause-only : goal.returns-in_err-octets-clause-only
 returns-in_err-octets-clause-only g c = λ other answer.
     let signed = c.args.self.now.signature.now.0 in
-    one_verdict (g.S.Scheme.judge c.args.scheme.now) c.args.self.now.policy (written signed) (fields_of signed) c.from_residual.result other (returns-in_err-octets-clause-answer g c) answer
+    one_verdict (g.S.Scheme.judge c.args.scheme.now) c.args.self.now.policy (written signed) (fields_of signed) c.from_residual.result other
+    (returns-in_err-octets-clause-answer g c) answer
 
 pub check_octets-requires : goal.check_octets-requires
 check_octets-requires g c = (c.args.self.now.signature.now.0, (c.in_ok-octets.ensures.1, c.deref.ensures.value ∙ c.in_ok-octets.ensures.0))
@@ -21,10 +23,12 @@ check_octets-requires g c = (c.args.self.now.signature.now.0, (c.in_ok-octets.en
 pub returns-clause-answer : goal.returns-clause-answer
 returns-clause-answer g c =
     let signed = c.args.self.now.signature.now.0 in
-    answered_behind (g.S.Scheme.judge c.args.scheme.now) c.args.self.now.policy (written signed) (fields_of signed) c.check_octets.result c.in_ok-octets.ensures.1
+    answered_behind (g.S.Scheme.judge c.args.scheme.now) c.args.self.now.policy (written signed) (fields_of signed)
+    c.check_octets.result c.in_ok-octets.ensures.1
     (c.check_octets.ensures.answer signed (c.in_ok-octets.ensures.1, c.deref.ensures.value ∙ c.in_ok-octets.ensures.0))
 
 pub returns-clause-only : goal.returns-clause-only
 returns-clause-only g c = λ other answer.
     let signed = c.args.self.now.signature.now.0 in
-    one_verdict (g.S.Scheme.judge c.args.scheme.now) c.args.self.now.policy (written signed) (fields_of signed) c.check_octets.result other (returns-clause-answer g c) answer
+    one_verdict (g.S.Scheme.judge c.args.scheme.now) c.args.self.now.policy (written signed) (fields_of signed) c.check_octets.result other
+    (returns-clause-answer g c) answer

@@ -3,7 +3,8 @@ use Rattle.authenticode_core.proofs.bag.issuer_walk.IssuerWalk.next.Goals as goa
 
 pub returns-in_err-next-clause-next : goal.returns-in_err-next-clause-next
 returns-in_err-next-clause-next c =
-    rw c.from_residual.ensures (λ bag from subject l place d later at fits. c.in_err-next.ensures.least bag l.stands place d (omega (arith, later, l.place)) at (fits ∙ sym l.octets))
+    rw c.from_residual.ensures
+    (λ bag from subject l place d later at fits. c.in_err-next.ensures.least bag l.stands place d (omega (arith, later, l.place)) at (fits ∙ sym l.octets))
 
 pub returns-clause-next : goal.returns-clause-next
 returns-clause-next c = λ bag from subject l.

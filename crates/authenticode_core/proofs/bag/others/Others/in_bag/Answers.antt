@@ -15,7 +15,12 @@ returns c = λ bag stands first.
         subject = subject;
         octets = c.subject.ensures;
         given = given;
-        gives = record { stands = stands; count = length bag; counted = omega (arith, first); are = ap (λ (from : ℕ). places_from from (length bag)) (sym first) };
+        gives = record {
+          stands = stands;
+          count = length bag;
+          counted = omega (arith, first);
+          are = ap (λ (from : ℕ). places_from from (length bag)) (sym first);
+        };
         others = others.1;
       },
     )

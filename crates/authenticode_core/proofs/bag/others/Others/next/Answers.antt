@@ -9,16 +9,19 @@ pub returns-then-not-is_same-clause-next : goal.returns-then-not-is_same-clause-
 returns-then-not-is_same-clause-next c = λ bag places left.
     let new : Others = record { source = c.next.new.self; subject = c.loop-next.self.subject } in
     returned c.loop-next.self new bag refl c.in-Some.next.place (view_elements c.in-Some.next.certificate) (λ ps gives. c.in-Some.ensures.next bag ps gives)
-    (λ subject octets has. iff_false c.is_same.ensures c.if-not-is_same.true (c.subject.ensures ∙ has ∙ sym octets)) places (c.loop-next.invariant.left bag places left)
+    (λ subject octets has. iff_false c.is_same.ensures c.if-not-is_same.true (c.subject.ensures ∙ has ∙ sym octets)) places
+    (c.loop-next.invariant.left bag places left)
 
 pub loop-next-preserved : goal.loop-next-preserved
 loop-next-preserved c = record {
   left = λ bag places left.
       let new : Others = record { source = c.next.new.self; subject = c.loop-next.self.subject } in
-      passed_over c.loop-next.self new bag refl c.in-Some.next.place (view_elements c.in-Some.next.certificate) (λ ps gives. c.in-Some.ensures.next bag ps gives)
+      passed_over c.loop-next.self new bag refl c.in-Some.next.place (view_elements c.in-Some.next.certificate)
+      (λ ps gives. c.in-Some.ensures.next bag ps gives)
       (λ subject octets. sym c.subject.ensures ∙ c.is_same.ensures.0 c.if-not-is_same.false ∙ octets) places (c.loop-next.invariant.left bag places left);
   shorter = omega (arith, c.in-Some.ensures.fewer, c.loop-next.invariant.shorter);
 }
 
 pub returns-clause-next : goal.returns-clause-next
-returns-clause-next c = λ bag places left. ended c.loop-next.self bag (λ ps gives. c.in_default.ensures.next bag ps gives) places (c.loop-next.invariant.left bag places left)
+returns-clause-next c =
+    λ bag places left. ended c.loop-next.self bag (λ ps gives. c.in_default.ensures.next bag ps gives) places (c.loop-next.invariant.left bag places left)

@@ -15,7 +15,12 @@ returns c = λ bag stands first.
         subject = subject;
         octets = c.subject.ensures;
         given = walk.0;
-        gives = record { from = c.args.bag.place; subject = subject; looks = c.new.ensures.looks bag stands; walks = subst (λ (from : ℕ). IsWalkFrom bag from subject walk.0) (sym first) walk.1 };
+        gives = record {
+          from = c.args.bag.place;
+          subject = subject;
+          looks = c.new.ensures.looks bag stands;
+          walks = subst (λ (from : ℕ). IsWalkFrom bag from subject walk.0) (sym first) walk.1;
+        };
         others = others.1;
       },
     )
