@@ -12,16 +12,19 @@ use Rattle.ca_register.specs.declared.entry.Entry.{Entry}
 use Rattle.ca_register.proofs.Lines.{here_within}
 use Rattle.ca_register.proofs.Records.{as_many, entry_of}
 
-module _ (entries : List Entry) (certificates : List KeptCertificate) (ordered : IsOrdered (history_of entries)) (all : length certificates ≡ length (history_of entries)) where
+module _ (entries : List Entry) (certificates : List KeptCertificate) (ordered : IsOrdered (history_of entries))
+    (all : length certificates ≡ length (history_of entries)) where
   abbrev Above : ℕ → Option ℕ → List KeptCertificate
   Above = certificates_above entries certificates
 
-  one_above : (most issuer : ℕ) (cert : KeptCertificate) (entry : Entry) → HasCert certificates issuer cert → HasEntry entries issuer entry → Above (suc most) (Some issuer) ≡ cert ∷ Above most entry.issuer
+  one_above : (most issuer : ℕ) (cert : KeptCertificate) (entry : Entry) → HasCert certificates issuer cert → HasEntry entries issuer entry
+      → Above (suc most) (Some issuer) ≡ cert ∷ Above most entry.issuer
   one_above most issuer cert entry is has =
       ap (λ (c : Option KeptCertificate). before c (Above most (issuer_in (slice_get entries issuer)))) is
       ∙ ap (λ (e : Option Entry). cert ∷ Above most (issuer_in e)) has
 
-  pub above_are : (place : ℕ) (ancestors : List ℕ) (entry : Entry) (most : ℕ) → AreAncestors (history_of entries) place ancestors → HasEntry entries place entry → place ≤ most → AreCertsAt certificates ancestors (Above most entry.issuer)
+  pub above_are : (place : ℕ) (ancestors : List ℕ) (entry : Entry) (most : ℕ) → AreAncestors (history_of entries) place ancestors → HasEntry entries place entry
+      → place ≤ most → AreCertsAt certificates ancestors (Above most entry.issuer)
   above_are place [] entry most are has enough =
       let of = entry_of entries place are.1.step are.1.is in
       let same : of.entry ≡ entry = same_some of.entry entry (sym of.has ∙ has) in
@@ -42,18 +45,21 @@ module _ (entries : List Entry) (certificates : List KeptCertificate) (ordered :
       let above = item_at entries issuer (omega (arith, within, as_many entries)) in
       let rest = above_are issuer ancestors above.0 most (are.0.1, are.1) above.1 (omega (arith, earlier, enough)) in
       subst (λ (o : Option ℕ). AreCertsAt certificates (issuer ∷ ancestors) (Above (suc most) o)) (sym issued)
-      (subst (λ (certs : List KeptCertificate). AreCertsAt certificates (issuer ∷ ancestors) certs) (sym (one_above most issuer cert.0 above.0 cert.1 above.1)) (cert.1, rest))
+      (subst (λ (certs : List KeptCertificate). AreCertsAt certificates (issuer ∷ ancestors) certs) (sym (one_above most issuer cert.0 above.0 cert.1 above.1))
+      (cert.1, rest))
 
 -- ---- one step of the iterator
 
-pub one_step : (entries : List Entry) (certificates : List KeptCertificate) (most left issuer : ℕ) (o next : Option ℕ) (cert : KeptCertificate) → o ≡ Some issuer → slice_get certificates issuer ≡ Some cert → most ≡ suc left
+pub one_step : (entries : List Entry) (certificates : List KeptCertificate) (most left issuer : ℕ) (o next : Option ℕ) (cert : KeptCertificate)
+    → o ≡ Some issuer → slice_get certificates issuer ≡ Some cert → most ≡ suc left
     → next ≡ issuer_in (slice_get entries issuer) → certificates_above entries certificates most o ≡ cert ∷ certificates_above entries certificates left next
 one_step entries certificates most left issuer o next cert here is enough on =
     ap (λ (m : ℕ). certificates_above entries certificates m o) enough ∙ ap (certificates_above entries certificates (suc left)) here
     ∙ ap (λ (c : Option KeptCertificate). before c (certificates_above entries certificates left (issuer_in (slice_get entries issuer)))) is
     ∙ ap (λ (n : Option ℕ). cert ∷ certificates_above entries certificates left n) (sym on)
 
-pub certs_once : (certificates : List KeptCertificate) (indices : List ℕ) (a b : List KeptCertificate) → AreCertsAt certificates indices a → AreCertsAt certificates indices b → a ≡ b
+pub certs_once : (certificates : List KeptCertificate) (indices : List ℕ) (a b : List KeptCertificate) → AreCertsAt certificates indices a
+    → AreCertsAt certificates indices b → a ≡ b
 certs_once certificates [] [] [] p q = refl
 certs_once certificates [] [] (y ∷ b) p q = absurd q
 certs_once certificates [] (x ∷ a) b p q = absurd p

@@ -72,7 +72,8 @@ module _ (date : GeneralizedTime) (lines : List Line) where
 
   -- ---- reports
 
-  pub answer_reports : (answer : Answer) (report : Report) → IsAnswerTo date lines answer → IsReportOf answer report → Reports (IsAnswerTo date lines) (Ok report)
+  pub answer_reports : (answer : Answer) (report : Report) → IsAnswerTo date lines answer → IsReportOf answer report
+      → Reports (IsAnswerTo date lines) (Ok report)
   answer_reports answer report is h = record {
     reported = (answer, is, h);
     stopped = tt;
@@ -85,11 +86,14 @@ counted_once : (a b c d : ℕ) → ◌≡◌ {A = Result Answer Stop} (Ok (Count
 counted_once a b c d e = cc
 
 -- the certificates of a filled register
-pub issued_count : (date : GeneralizedTime) (lines : List Line) (entries : List Entry) (certificates : List KeptCertificate) → IsFilled lines entries certificates → ∥ IsRegister demo_verdict entries certificates ∥₁
-    → (len number issued accepted : ℕ) → (IsRegister demo_verdict entries certificates → IsCount (IsAcceptedAt demo_verdict entries certificates date) (length entries) number)
+pub issued_count : (date : GeneralizedTime) (lines : List Line) (entries : List Entry) (certificates : List KeptCertificate)
+    → IsFilled lines entries certificates → ∥ IsRegister demo_verdict entries certificates ∥₁
+    → (len number issued accepted : ℕ)
+    → (IsRegister demo_verdict entries certificates → IsCount (IsAcceptedAt demo_verdict entries certificates date) (length entries) number)
     → ◌≡◌ {A = Result Answer Stop} (Ok (Counted len number)) (Ok (Counted issued accepted)) → ∥ AreIssued date lines accepted ∥₁
 issued_count date lines entries certificates filled kept len number issued accepted count same = ∥∥₁_map kept (λ is.
-    let counted = subst (IsCount (IsAcceptedAt demo_verdict entries certificates date) (length entries)) (counted_once len number issued accepted same) (count is) in
+    let counted =
+    subst (IsCount (IsAcceptedAt demo_verdict entries certificates date) (length entries)) (counted_once len number issued accepted same) (count is) in
     let many : length entries ≡ length lines = ap (λ (es : List Entry). length es) filled.recorded ∙ length-map lines entry_of in
     record {
       certificates = certificates;
@@ -101,7 +105,8 @@ issued_count date lines entries certificates filled kept len number issued accep
 
 -- ---- the file
 
-module _ (shelf shelf_now : ShelfState) (words : List (List ℕ)) (job : Job) (asked : AsksFor words job) (text : List ℕ) (file : IsWholeFile shelf.files job.file text) (given : HandsOut (length text) shelf shelf_now) where
+module _ (shelf shelf_now : ShelfState) (words : List (List ℕ)) (job : Job) (asked : AsksFor words job) (text : List ℕ)
+    (file : IsWholeFile shelf.files job.file text) (given : HandsOut (length text) shelf shelf_now) where
   pub counts_for : (result : Result Report Stop)
       → IfOk result (λ report. report.status ≡ 0 → (lines : List Line) × IsRegisterText text lines × IsCountLine job.date lines (string_bytes report.line))
       → IfOk result (λ report. report.status ≡ 0 → IsCountFor words shelf shelf_now (string_bytes report.line))
@@ -111,7 +116,8 @@ module _ (shelf shelf_now : ShelfState) (words : List (List ℕ)) (job : Job) (a
   counts_for (Err s) h = tt
 
 -- the file alone
-pub read_alone : (shelf shelf_now : ShelfState) (name text : List ℕ) → IsWholeFile shelf.files name text → HandsOut (length text) shelf shelf_now → AreRead shelf shelf_now (name ∷ []) (text ∷ [])
+pub read_alone : (shelf shelf_now : ShelfState) (name text : List ℕ) → IsWholeFile shelf.files name text → HandsOut (length text) shelf shelf_now
+    → AreRead shelf shelf_now (name ∷ []) (text ∷ [])
 read_alone shelf shelf_now name text whole given = record {
   are_files = (whole, tt);
   given = subst (λ (n : ℕ). HandsOut n shelf shelf_now) (sym (sum_by-cons (λ (o : List ℕ). length o) text [] ∙ add-zero)) given;
@@ -134,7 +140,8 @@ module _ (words : List (List ℕ)) (shelf shelf_now : ShelfState) (report : Repo
 pub ended_count : (words : List (List ℕ)) (shelf shelf_now : ShelfState) (result : Result Report Stop)
     → IfOk result (λ report. report.status ≡ 0 → IsCountFor words shelf shelf_now (string_bytes report.line)) → (out out_now : SinkState)
     → (status : ℕ) → status ≡ 0 → Ends result out out_now status → IsReportedCount words shelf shelf_now out.held out_now.held
-ended_count words shelf shelf_now (Ok report) counted out out_now status zero ends = delivered_count words shelf shelf_now report counted out out_now status zero ends
+ended_count words shelf shelf_now (Ok report) counted out out_now status zero ends =
+    delivered_count words shelf shelf_now report counted out out_now status zero ends
 ended_count words shelf shelf_now (Err stop.Usage) counted out out_now status zero ends = absurd (omega (arith, zero, ends.0))
 ended_count words shelf shelf_now (Err stop.BadTable) counted out out_now status zero ends = absurd (omega (arith, zero, ends.0))
 ended_count words shelf shelf_now (Err stop.Shelf) counted out out_now status zero ends = absurd (omega (arith, zero, ends.0))

@@ -1,5 +1,6 @@
 -- The builders of a register's certificates, and what is refused by the steps.
-use Rattle.std.proofs.Common.{◌≡◌, ℕ, Bool, true, false, List, [], ◌∷◌, ◌++◌, Option, Some, None, Result, Ok, Err, IfOk, MatchResult, inl, inr, refl, sym, ap, subst, ◌∙◌}
+use Rattle.std.proofs.Common.{◌≡◌, ℕ, Bool, true, false, List, [], ◌∷◌, ◌++◌, Option, Some, None}
+use Rattle.std.proofs.Common.{Result, Ok, Err, IfOk, MatchResult, inl, inr, refl, sym, ap, subst, ◌∙◌}
 use Rattle.std.specs.Borrow.{Bor}
 use Rattle.der_core.specs.Refusals.{Wraps}
 use Rattle.der_core.specs.Rules.{IsFirstBroken, OrMemory}
@@ -62,7 +63,8 @@ root_builder grant name key before after g is = subst (IsRootBuilder grant name 
   own = refl;
 })
 
-pub takes_root : (pair : Pair) (grant : Grant) (name : DirectoryName) (key : PrivateKey) (b : CertificateBuilder) (certificates : List KeptCertificate) → IsRootBuilder grant name key b
+pub takes_root : (pair : Pair) (grant : Grant) (name : DirectoryName) (key : PrivateKey) (b : CertificateBuilder) (certificates : List KeptCertificate)
+    → IsRootBuilder grant name key b
     → TakesStep pair b certificates (step_of (record { issuer = None; grant = grant }))
 takes_root pair grant name key b certificates is = record {
   ca = sym is.granted.ca;
@@ -75,13 +77,15 @@ takes_root pair grant name key b certificates is = record {
 }
 
 module _ (scheme : KeyArithmetic) (word : ℕ) (IsBuilder : CertificateBuilder → Type 0) (b : CertificateBuilder) (is : IsBuilder b) where
-  pub root_unbuilt : (source : CertError) → RefusesBySteps cert_errors.Memory (build_steps scheme b word) source → RefusesBySteps errors.Memory (root_build_step scheme word IsBuilder ∷ []) (unbuilt source)
+  pub root_unbuilt : (source : CertError) → RefusesBySteps cert_errors.Memory (build_steps scheme b word) source
+      → RefusesBySteps errors.Memory (root_build_step scheme word IsBuilder ∷ []) (unbuilt source)
   root_unbuilt source (inl first) = inl (inl (b, is, (source, refl, first)))
   root_unbuilt source (inr memory) = inr (ap unbuilt memory)
 
 -- ---- children
 
-pub granted_under : (grant : Grant) (key : Bor PrivateKey) (parent : KeptCertificate) (before after : CertificateBuilder) → IsGranted grant before → IsIssuedUnder parent key before after → IsGranted grant after
+pub granted_under : (grant : Grant) (key : Bor PrivateKey) (parent : KeptCertificate) (before after : CertificateBuilder) → IsGranted grant before
+    → IsIssuedUnder parent key before after → IsGranted grant after
 granted_under grant key parent before after g under = subst (IsGranted grant) (sym under.is) (record {
   begins = g.begins;
   ends = g.ends;
@@ -96,7 +100,8 @@ granted_under grant key parent before after g under = subst (IsGranted grant) (s
   issuer_alt_name = g.issuer_alt_name;
 })
 
-pub child_builder : (grant : Grant) (subject : SubjectInfos) (inherits : Bool) (key : Bor PrivateKey) (parent : KeptCertificate) (before after : CertificateBuilder) → IsFor grant subject inherits before
+pub child_builder : (grant : Grant) (subject : SubjectInfos) (inherits : Bool) (key : Bor PrivateKey) (parent : KeptCertificate)
+    (before after : CertificateBuilder) → IsFor grant subject inherits before
     → before.authority_key_identifier ≡ None → IsIssuedUnder parent key before after → IsChildBuilder grant subject inherits key.now parent after
 child_builder grant subject inherits key parent before after f unidentified under = record {
   for = record {
@@ -110,8 +115,10 @@ child_builder grant subject inherits key parent before after f unidentified unde
   keyed = refl;
   other = refl;
   identified =
-      subst (IsIdentifiedBy (extensions_in parent.certificate.tbs_certificate.extensions) None) (ap (λ (b : CertificateBuilder). b.authority_key_identifier) (sym under.is))
-      (subst (λ (o : Option (List ℕ)). IsIdentifiedBy (extensions_in parent.certificate.tbs_certificate.extensions) o under.authority) unidentified under.identified);
+      subst (IsIdentifiedBy (extensions_in parent.certificate.tbs_certificate.extensions) None)
+      (ap (λ (b : CertificateBuilder). b.authority_key_identifier) (sym under.is))
+      (subst (λ (o : Option (List ℕ)). IsIdentifiedBy (extensions_in parent.certificate.tbs_certificate.extensions) o under.authority)
+      unidentified under.identified);
 }
 
 module _ (scheme : KeyArithmetic) (word : ℕ) (certificates : List KeptCertificate) (issuer : ℕ) (IsBuilder : KeptCertificate → CertificateBuilder → Type 0)
@@ -128,8 +135,10 @@ module _ (scheme : KeyArithmetic) (word : ℕ) (certificates : List KeptCertific
     pub child_signed : (r : Result KeptCertificate IssueError)
         → MatchResult r (λ signed. (signed ≡ cert) × IsSignedBy scheme.judge parent.elements cert.elements)
         (OrMemory errors.Memory (Wraps wrong_key (λ source. IsBadlySignedLink scheme.judge parent.elements cert.elements (causes.Signature source))))
-        → MatchResult r (IsIssuedCert scheme word certificates issuer IsBuilder) (RefusesBySteps errors.Memory (signed_steps scheme word certificates issuer IsBuilder))
-    child_signed (Ok signed) (same, by_key) = subst (IsIssuedCert scheme word certificates issuer IsBuilder) (sym same) (record { under = under; signed = by_key })
+        → MatchResult r (IsIssuedCert scheme word certificates issuer IsBuilder)
+        (RefusesBySteps errors.Memory (signed_steps scheme word certificates issuer IsBuilder))
+    child_signed (Ok signed) (same, by_key) =
+        subst (IsIssuedCert scheme word certificates issuer IsBuilder) (sym same) (record { under = under; signed = by_key })
     child_signed (Err e) (inl wraps) = inl (inr ((cert, under), inl (cert, under, wraps)))
     child_signed (Err e) (inr memory) = inr memory
 
@@ -141,7 +150,8 @@ unbuilt_is_no_key _ other e = absurd cc
 
 -- ---- the algorithm
 
-pub names_algorithm : (judge : Judge) (signs : Signs) (pair : Pair) (b : CertificateBuilder) (word : ℕ) (cert : KeptCertificate) → IsBuilt (arithmetic judge signs pair) b word cert → (algorithm : SignatureAlgorithm) → b.signature_hash_type ≡ algorithm
+pub names_algorithm : (judge : Judge) (signs : Signs) (pair : Pair) (b : CertificateBuilder) (word : ℕ) (cert : KeptCertificate)
+    → IsBuilt (arithmetic judge signs pair) b word cert → (algorithm : SignatureAlgorithm) → b.signature_hash_type ≡ algorithm
     → NamesSignature cert.certificate.signature_algorithm algorithm
 names_algorithm judge signs pair b word cert is algorithm same =
     subst (NamesSignature cert.certificate.signature_algorithm) same
@@ -153,7 +163,8 @@ pub taken_both : {E : Type 0} (a b : List (Step E)) → AreTaken a → AreTaken 
 taken_both [] b p q = q
 taken_both (step ∷ a) b p q = (p.0, taken_both a b p.1 q)
 
-pub issued_taken : (scheme : KeyArithmetic) (word : ℕ) (certificates : List KeptCertificate) (issuer : ℕ) (IsBuilder : KeptCertificate → CertificateBuilder → Type 0) (cert : KeptCertificate)
+pub issued_taken : (scheme : KeyArithmetic) (word : ℕ) (certificates : List KeptCertificate) (issuer : ℕ) (IsBuilder : KeptCertificate → CertificateBuilder
+    → Type 0) (cert : KeptCertificate)
     → IsIssuedCert scheme word certificates issuer IsBuilder cert → AreTaken (signed_steps scheme word certificates issuer IsBuilder)
 issued_taken scheme word certificates issuer IsBuilder cert is = ((cert, is.under), ((cert, is), tt))
 
@@ -170,9 +181,11 @@ module _ (P : KeptCertificate → Type 0) (judge : Judge) (parent cert : KeptCer
       by (Ok made) (same, by_key) = subst P (sym same) (f by_key)
       by (Err e) refused = tt
 
-never_refused : (judge : Judge) (parent cert : KeptCertificate) (e : IssueError) (other : SignatureError) → IsSignedBy judge parent.elements cert.elements → ◌≡◌ {A = Result KeptCertificate IssueError} (Err e) (Err (errors.WrongKey other))
+never_refused : (judge : Judge) (parent cert : KeptCertificate) (e : IssueError) (other : SignatureError) → IsSignedBy judge parent.elements cert.elements
+    → ◌≡◌ {A = Result KeptCertificate IssueError} (Err e) (Err (errors.WrongKey other))
     → OrMemory errors.Memory (Wraps wrong_key (λ source. IsBadlySignedLink judge parent.elements cert.elements (causes.Signature source))) e → ⊥
-never_refused judge parent cert e other by_key is (inl (source, same, bad)) = well_signed judge parent.elements cert.elements (causes.Signature source) by_key bad
+never_refused judge parent cert e other by_key is (inl (source, same, bad)) =
+    well_signed judge parent.elements cert.elements (causes.Signature source) by_key bad
 never_refused judge parent cert e other by_key is (inr memory) = absurd cc
 
 pub never_wrong : (judge : Judge) (parent cert : KeptCertificate) (r : Result KeptCertificate IssueError)
@@ -182,7 +195,8 @@ pub never_wrong : (judge : Judge) (parent cert : KeptCertificate) (r : Result Ke
 never_wrong judge parent cert (Ok made) signed by_key other is = absurd cc
 never_wrong judge parent cert (Err e) refused by_key other is = never_refused judge parent cert e other by_key is refused
 
-pub signed_or_not : (judge : Judge) (parent cert : KeptCertificate) (algorithm : SignatureAlgorithm) (info : SubjectPublicKeyInfo) (msg sig : List ℕ) (source : SignatureError) → IsSignedWith parent.elements cert.elements algorithm info
+pub signed_or_not : (judge : Judge) (parent cert : KeptCertificate) (algorithm : SignatureAlgorithm) (info : SubjectPublicKeyInfo) (msg sig : List ℕ)
+    (source : SignatureError) → IsSignedWith parent.elements cert.elements algorithm info
     → msg ≡ signed_octets cert.elements → sig ≡ cert.elements.signature → RefusesSignatureBy (verify_rules judge algorithm info msg sig) source
     → OrMemory errors.Memory (Wraps wrong_key (λ s. IsBadlySignedLink judge parent.elements cert.elements (causes.Signature s))) (wrong_key source)
 signed_or_not judge parent cert algorithm info msg sig source parts message signature (inl first) = inl (

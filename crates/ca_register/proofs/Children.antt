@@ -53,9 +53,11 @@ same_constraints : (a b : BasicConstraints) → views.BasicConstraints a ≡ vie
 same_constraints a b e = cc
 
 subject_is : (kept : KeptCertificate) → kept.elements.tbs.subject ≡ name kept.certificate.tbs_certificate.subject
-subject_is kept = ∥∥₁_elim kept.spelled (Coded-set coded_element kept.elements.tbs.subject (name kept.certificate.tbs_certificate.subject)) (λ are. are.tbs.subject)
+subject_is kept =
+    ∥∥₁_elim kept.spelled (Coded-set coded_element kept.elements.tbs.subject (name kept.certificate.tbs_certificate.subject)) (λ are. are.tbs.subject)
 
-module _ (judge : Judge) (signs : Signs) (pair : Pair) (b : CertificateBuilder) (word : ℕ) (cert : KeptCertificate) (is : IsBuilt (arithmetic judge signs pair) b word cert)
+module _ (judge : Judge) (signs : Signs) (pair : Pair) (b : CertificateBuilder) (word : ℕ) (cert : KeptCertificate)
+    (is : IsBuilt (arithmetic judge signs pair) b word cert)
     (are : AreCertificateFields cert.elements cert.certificate)
     (constrained : HasFirst CE_BASIC_CONSTRAINTS.now (extensions_in cert.certificate.tbs_certificate.extensions) (constraints_of b))
     (identified : IsIdentified b cert.certificate.tbs_certificate) (distinct : AreDistinct (extensions_in cert.certificate.tbs_certificate.extensions)) where
@@ -71,7 +73,8 @@ module _ (judge : Judge) (signs : Signs) (pair : Pair) (b : CertificateBuilder) 
   length_is : (number : ℕ) → HasPathLength cert.elements number → b.pathlen ≡ Some number
   length_is number has =
       let length : HasLength (extensions_in cert.certificate.tbs_certificate.extensions) number = (said.length number).0 has in
-      let same = same_constraints length.value _ (first_once CE_BASIC_CONSTRAINTS.now (extensions_in cert.certificate.tbs_certificate.extensions) _ _ length.first constrained) in
+      let same = same_constraints length.value _
+      (first_once CE_BASIC_CONSTRAINTS.now (extensions_in cert.certificate.tbs_certificate.extensions) _ _ length.first constrained) in
       ap (λ (c : BasicConstraints). c.pathlen) (sym same) ∙ length.limited
 
   begins : (date : GeneralizedTime) → b.valid_from ≡ Some date → IsNotBefore cert.elements date
@@ -99,7 +102,8 @@ module _ (judge : Judge) (signs : Signs) (pair : Pair) (b : CertificateBuilder) 
     distinct = distinct;
   }
 
-  module _ (parent : KeptCertificate) (key : Bor PrivateKey) (before : CertificateBuilder) (under : IsIssuedUnder parent key before b) (own : List ℕ) (had : HasSubjectKey parent.elements own) (authority : b.authority_key_identifier ≡ Some own)
+  module _ (parent : KeptCertificate) (key : Bor PrivateKey) (before : CertificateBuilder) (under : IsIssuedUnder parent key before b) (own : List ℕ)
+      (had : HasSubjectKey parent.elements own) (authority : b.authority_key_identifier ≡ Some own)
       (signed : IsSignedBy judge parent.elements cert.elements) where
     abbrev Infos : IssuerInfos
     Infos = record { name = name_of_sets parent.certificate.tbs_certificate.subject; key = key; self_signed = false }
@@ -123,14 +127,16 @@ module _ (judge : Judge) (signs : Signs) (pair : Pair) (b : CertificateBuilder) 
     named =
         (said.authority_key own).1
         (subst (λ (o : Option (List ℕ)). NamesKey (extensions_in cert.certificate.tbs_certificate.extensions) (authority_of false o identified.own)) authority
-        (subst (λ (flag : Bool). NamesKey (extensions_in cert.certificate.tbs_certificate.extensions) (authority_of flag b.authority_key_identifier identified.own)) other identified.authority))
+        (subst (λ (flag : Bool). NamesKey (extensions_in cert.certificate.tbs_certificate.extensions)
+        (authority_of flag b.authority_key_identifier identified.own)) other identified.authority))
 
     pub certified : IsCertifiedBy judge parent.elements cert.elements
     certified = record { name = agreed; key = own; named = named; had = had; signed = signed }
 
 -- ---- a signature by the key isn't refused
 
-pub well_signed : (judge : Judge) (parent child : CertificateElements) (cause : CertCause) → IsSignedBy judge parent child → IsBadlySignedLink judge parent child cause → ⊥
+pub well_signed : (judge : Judge) (parent child : CertificateElements) (cause : CertCause) → IsSignedBy judge parent child
+    → IsBadlySignedLink judge parent child cause → ⊥
 well_signed judge parent child cause s b =
     let id = one_algorithm child s.parts.id b.parts.id s.parts.beside b.parts.beside in
     let named = subst (λ (id : AlgorithmIdentifier). NamesSignature id s.algorithm) id s.parts.named in

@@ -27,10 +27,13 @@ abbrev pub Verdict : {T : Type 0} → Judge → GeneralizedTime → KeptCertific
 Verdict judge date checked parents r =
     MatchResult r (λ _. IsAccepted judge (checks_of date) checked (Some parents)) (RefusesCertBy (chain_rules judge (checks_of date) checked (Some parents)))
 
-module _ (judge : Judge) (entries : List Entry) (certificates : List KeptCertificate) (kept : ∥ IsRegister judge entries certificates ∥₁) (place : ℕ) (date from to : GeneralizedTime) (usable : IsUsable entries place from to)
-    (checked : KeptCertificate) (has : HasCert certificates place checked) (parents : List KeptCertificate) (are : AreCertsAt certificates usable.ancestors parents) where
+module _ (judge : Judge) (entries : List Entry) (certificates : List KeptCertificate) (kept : ∥ IsRegister judge entries certificates ∥₁) (place : ℕ)
+    (date from to : GeneralizedTime) (usable : IsUsable entries place from to)
+    (checked : KeptCertificate) (has : HasCert certificates place checked) (parents : List KeptCertificate)
+    (are : AreCertsAt certificates usable.ancestors parents) where
   decided : IsAccepted judge (checks_of date) checked (Some parents) → IsRegister judge entries certificates → IsBetween from to date
-  decided is_accepted is = between_valid judge entries certificates is place from to date usable (valid judge (history_of entries) certificates date is.issued place usable.ancestors checked parents usable.are has are is_accepted)
+  decided is_accepted is = between_valid judge entries certificates is place from to date usable
+      (valid judge (history_of entries) certificates date is.issued place usable.ancestors checked parents usable.are has are is_accepted)
 
   accepted_between : IsAccepted judge (checks_of date) checked (Some parents) → IsBetween from to date
   accepted_between is_accepted = record {
@@ -41,9 +44,11 @@ module _ (judge : Judge) (entries : List Entry) (certificates : List KeptCertifi
   not_between : (e : CertError) → RefusesCertBy (chain_rules judge (checks_of date) checked (Some parents)) e → e ≢ errors.Memory → IsBetween from to date → ⊥
   not_between e (inl broken) other between = ∥∥₁_elim kept (λ a b. absurd a) (λ is.
       accepted_is_met judge (checks_of date) checked (Some parents) e
-      (accepted judge (history_of entries) certificates date is.issued place usable.ancestors checked parents usable.are has are (valid_between judge entries certificates is place from to date usable between)) broken)
+      (accepted judge (history_of entries) certificates date is.issued place usable.ancestors checked parents usable.are has are
+      (valid_between judge entries certificates is place from to date usable between)) broken)
   not_between e (inr memory) other between = other memory
 
-  pub decided_by_entries : {T : Type 0} (r : Result T CertError) → Verdict judge date checked parents r → MatchResult r (λ _. IsBetween from to date) (λ e. e ≢ errors.Memory → IsBetween from to date → ⊥)
+  pub decided_by_entries : {T : Type 0} (r : Result T CertError) → Verdict judge date checked parents r
+      → MatchResult r (λ _. IsBetween from to date) (λ e. e ≢ errors.Memory → IsBetween from to date → ⊥)
   decided_by_entries (Ok v) is_accepted = accepted_between is_accepted
   decided_by_entries (Err e) refused = not_between e refused

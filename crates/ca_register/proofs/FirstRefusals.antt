@@ -68,18 +68,27 @@ where_first [] behind (o ∷ other) after line next e =
     inr (inl (record { between = other; is = ap (λ (l : Line). l ∷ other) (sym (same_head line o behind (other ++ next ∷ after) e)) }))
 where_first (a ∷ ahead) behind [] after line next e =
     inr (inr (record { between = ahead; is = ap (λ (l : Line). l ∷ ahead) (same_head a next (ahead ++ line ∷ behind) after e) }))
-where_first (a ∷ ahead) behind (o ∷ other) after line next e = by (where_first ahead behind other after line next (same_tail a o (ahead ++ line ∷ behind) (other ++ next ∷ after) e))
+where_first (a ∷ ahead) behind (o ∷ other) after line next e =
+    by (where_first ahead behind other after line next (same_tail a o (ahead ++ line ∷ behind) (other ++ next ∷ after) e))
   where
     here : a ≡ o
     here = same_head a o (ahead ++ line ∷ behind) (other ++ next ∷ after) e
 
     by : IsSame ahead other line next ⊎ (Begins ahead behind other after line next ⊎ Begins other after ahead behind next line)
-        → IsSame (a ∷ ahead) (o ∷ other) line next ⊎ (Begins (a ∷ ahead) behind (o ∷ other) after line next ⊎ Begins (o ∷ other) after (a ∷ ahead) behind next line)
+        → IsSame (a ∷ ahead) (o ∷ other) line next
+        ⊎ (Begins (a ∷ ahead) behind (o ∷ other) after line next ⊎ Begins (o ∷ other) after (a ∷ ahead) behind next line)
     by (inl same) = inl (record { ahead_is = ap (λ (l : Line). l ∷ ahead) here ∙ ap (λ (ls : List Line). o ∷ ls) same.ahead_is; line_is = same.line_is })
-    by (inr (inl x)) = inr (inl (record { between = x.between; is = ap (λ (ls : List Line). o ∷ ls) x.is ∙ ap (λ (l : Line). l ∷ (ahead ++ line ∷ x.between)) (sym here) }))
-    by (inr (inr x)) = inr (inr (record { between = x.between; is = ap (λ (ls : List Line). a ∷ ls) x.is ∙ ap (λ (l : Line). l ∷ (other ++ next ∷ x.between)) here }))
+    by (inr (inl x)) = inr (inl (record {
+      between = x.between;
+      is = ap (λ (ls : List Line). o ∷ ls) x.is ∙ ap (λ (l : Line). l ∷ (ahead ++ line ∷ x.between)) (sym here);
+    }))
+    by (inr (inr x)) = inr (inr (record {
+      between = x.between;
+      is = ap (λ (ls : List Line). a ∷ ls) x.is ∙ ap (λ (l : Line). l ∷ (other ++ next ∷ x.between)) here;
+    }))
 
-not_issuable : (ahead : List Line) (line : Line) (e : IssueError) → IsIssuable ahead line → IsFirstUntaken (steps_after (entries_of ahead) line.issuer (grant_of line)) e → ⊥
+not_issuable : (ahead : List Line) (line : Line) (e : IssueError) → IsIssuable ahead line
+    → IsFirstUntaken (steps_after (entries_of ahead) line.issuer (grant_of line)) e → ⊥
 not_issuable ahead line e issuable untaken =
     taken_untaken (steps_after (entries_of ahead) line.issuer (grant_of line)) e (steps_decide (entries_of ahead) line.issuer (grant_of line)) issuable untaken
 
@@ -90,10 +99,12 @@ none_refused lines e issuable first = not_issuable first.ahead first.refused e (
 pub one_refusal : (lines : List Line) (e other : IssueError) → IsFirstRefused lines e → IsFirstRefused lines other → e ≡ other
 one_refusal lines e other x y = by (where_first x.ahead x.behind y.ahead y.behind x.refused y.refused (sym x.are ∙ y.are))
   where
-    by : IsSame x.ahead y.ahead x.refused y.refused ⊎ (Begins x.ahead x.behind y.ahead y.behind x.refused y.refused ⊎ Begins y.ahead y.behind x.ahead x.behind y.refused x.refused) → e ≡ other
+    by : IsSame x.ahead y.ahead x.refused y.refused
+        ⊎ (Begins x.ahead x.behind y.ahead y.behind x.refused y.refused ⊎ Begins y.ahead y.behind x.ahead x.behind y.refused x.refused) → e ≡ other
     by (inl same) =
         let reason = subst (λ (l : Line). IsFirstUntaken (steps_after (entries_of y.ahead) l.issuer (grant_of l)) e) same.line_is
         (subst (λ (ls : List Line). IsFirstUntaken (steps_after (entries_of ls) x.refused.issuer (grant_of x.refused)) e) same.ahead_is x.reason) in
-        one_untaken (steps_after (entries_of y.ahead) y.refused.issuer (grant_of y.refused)) e other (steps_decide (entries_of y.ahead) y.refused.issuer (grant_of y.refused)) reason y.reason
+        one_untaken (steps_after (entries_of y.ahead) y.refused.issuer (grant_of y.refused)) e other
+        (steps_decide (entries_of y.ahead) y.refused.issuer (grant_of y.refused)) reason y.reason
     by (inr (inl z)) = absurd (not_issuable x.ahead x.refused e (y.issued x.ahead z.between x.refused z.is) x.reason)
     by (inr (inr z)) = absurd (not_issuable y.ahead y.refused other (x.issued y.ahead z.between y.refused z.is) y.reason)

@@ -30,7 +30,8 @@ use Rattle.ca_register.proofs.Kept.{kept_all, kept_ordered}
 
 -- ---- a subject
 
-pub granted_for : (grant : Grant) (subject : SubjectInfos) (before after : CertificateBuilder) → IsGranted grant before → after ≡ record before { subject_infos = Some subject } → IsGranted grant after
+pub granted_for : (grant : Grant) (subject : SubjectInfos) (before after : CertificateBuilder) → IsGranted grant before
+    → after ≡ record before { subject_infos = Some subject } → IsGranted grant after
 granted_for grant subject before after g is = subst (IsGranted grant) (sym is) (record {
   begins = g.begins;
   ends = g.ends;
@@ -45,7 +46,8 @@ granted_for grant subject before after g is = subst (IsGranted grant) (sym is) (
   issuer_alt_name = g.issuer_alt_name;
 })
 
-pub granted_inherits : (grant : Grant) (inherits : Bool) (before after : CertificateBuilder) → IsGranted grant before → after ≡ record before { inherits = inherits } → IsGranted grant after
+pub granted_inherits : (grant : Grant) (inherits : Bool) (before after : CertificateBuilder) → IsGranted grant before
+    → after ≡ record before { inherits = inherits } → IsGranted grant after
 granted_inherits grant inherits before after g is = subst (IsGranted grant) (sym is) (record {
   begins = g.begins;
   ends = g.ends;
@@ -60,7 +62,8 @@ granted_inherits grant inherits before after g is = subst (IsGranted grant) (sym
   issuer_alt_name = g.issuer_alt_name;
 })
 
-pub for_subject : (grant : Grant) (subject : SubjectInfos) (inherits : Bool) (before after : CertificateBuilder) → IsGranted grant before → before.inherits ≡ inherits → after ≡ record before { subject_infos = Some subject }
+pub for_subject : (grant : Grant) (subject : SubjectInfos) (inherits : Bool) (before after : CertificateBuilder) → IsGranted grant before
+    → before.inherits ≡ inherits → after ≡ record before { subject_infos = Some subject }
     → IsFor grant subject inherits after
 for_subject grant subject inherits before after g same is = record {
   granted = granted_for grant subject before after g is;
@@ -68,7 +71,8 @@ for_subject grant subject inherits before after g same is = record {
   inherited = ap (λ (b : CertificateBuilder). b.inherits) is ∙ same;
 }
 
-pub for_inherited : (grant : Grant) (subject : SubjectInfos) (inherits old : Bool) (before after : CertificateBuilder) → IsFor grant subject old before → after ≡ record before { inherits = inherits } → IsFor grant subject inherits after
+pub for_inherited : (grant : Grant) (subject : SubjectInfos) (inherits old : Bool) (before after : CertificateBuilder) → IsFor grant subject old before
+    → after ≡ record before { inherits = inherits } → IsFor grant subject inherits after
 for_inherited grant subject inherits old before after f is = record {
   granted = granted_inherits grant inherits before after f.granted is;
   given = ap (λ (b : CertificateBuilder). b.subject_infos) is ∙ f.given;
@@ -77,24 +81,31 @@ for_inherited grant subject inherits old before after f is = record {
 
 -- ---- a request
 
-pub enrol_builder : (grant : Grant) (octets : List ℕ) (csr : KeptRequest) (key : PrivateKey) → encoding (kept_request csr) ≡ octets → (parent : KeptCertificate) (b : CertificateBuilder)
+pub enrol_builder : (grant : Grant) (octets : List ℕ) (csr : KeptRequest) (key : PrivateKey) → encoding (kept_request csr) ≡ octets
+    → (parent : KeptCertificate) (b : CertificateBuilder)
     → IsChildBuilder grant (subjects.Request csr) true key parent b → IsEnrolBuilder grant octets key parent b
 enrol_builder grant octets csr key is parent b child = record { csr = csr; is = is; child = child }
 
 module _ (scheme : KeyArithmetic) (word : ℕ) (certificates : List KeptCertificate) (issuer : ℕ) (A B : KeptCertificate → CertificateBuilder → Type 0)
     (f : (parent : KeptCertificate) (b : CertificateBuilder) → A parent b → B parent b) where
   abbrev under_other : (cert : KeptCertificate) → IsBuiltUnder scheme word certificates issuer A cert → IsBuiltUnder scheme word certificates issuer B cert
-  under_other cert under = record { parent = under.parent; has = under.has; by = record { builder = under.by.builder; is = f under.parent under.by.builder under.by.is; built = under.by.built } }
+  under_other cert under = record {
+    parent = under.parent;
+    has = under.has;
+    by = record { builder = under.by.builder; is = f under.parent under.by.builder under.by.is; built = under.by.built };
+  }
 
   pub issued_by_other : (cert : KeptCertificate) → IsIssuedCert scheme word certificates issuer A cert → IsIssuedCert scheme word certificates issuer B cert
   issued_by_other cert is = record { under = under_other cert is.under; signed = is.signed }
 
-  untaken_other : (e : IssueError) → IsFirstUntaken (signed_steps scheme word certificates issuer A) e → IsFirstUntaken (signed_steps scheme word certificates issuer B) e
+  untaken_other : (e : IssueError) → IsFirstUntaken (signed_steps scheme word certificates issuer A) e
+      → IsFirstUntaken (signed_steps scheme word certificates issuer B) e
   untaken_other e (inl (parent, b, has, is, wraps)) = inl (parent, b, has, f parent b is, wraps)
   untaken_other e (inr ((cert, under), inl (other, of, wraps))) = inr ((cert, under_other cert under), inl (other, under_other other of, wraps))
   untaken_other e (inr ((cert, under), inr (signed, none))) = absurd none
 
-  pub refused_by_other : (e : IssueError) → RefusesBySteps errors.Memory (signed_steps scheme word certificates issuer A) e → RefusesBySteps errors.Memory (signed_steps scheme word certificates issuer B) e
+  pub refused_by_other : (e : IssueError) → RefusesBySteps errors.Memory (signed_steps scheme word certificates issuer A) e
+      → RefusesBySteps errors.Memory (signed_steps scheme word certificates issuer B) e
   refused_by_other e (inl first) = inl (untaken_other e first)
   refused_by_other e (inr memory) = inr memory
 
@@ -114,7 +125,8 @@ unread_is_no_key octets other (inr memory) = memory_is_no_key other memory
 
 -- ---- a refusal that is returned
 
-same_error : {T : Type 0} (y e other : IssueError) → ◌≡◌ {A = Result T IssueError} (Err y) (Err e) → ◌≡◌ {A = Result T IssueError} (Err y) (Err other) → e ≡ other
+same_error : {T : Type 0} (y e other : IssueError) → ◌≡◌ {A = Result T IssueError} (Err y) (Err e)
+    → ◌≡◌ {A = Result T IssueError} (Err y) (Err other) → e ≡ other
 same_error y e other p q = cc
 
 pub returned_key : {T : Type 0} (r : Result T IssueError) (e other : IssueError) → r ≡ Err e → r ≡ Err other → e ≡ other
@@ -123,7 +135,8 @@ returned_key (Err y) e other p q = same_error y e other p q
 
 -- ---- what the entries decided of the lent list
 
-module _ (judge : Judge) (entries : List Entry) (certificates : List KeptCertificate) (kept : ∥ IsRegister judge entries certificates ∥₁) (issuer : ℕ) (lent : List Entry) (same : lent ≡ entries) where
+module _ (judge : Judge) (entries : List Entry) (certificates : List KeptCertificate) (kept : ∥ IsRegister judge entries certificates ∥₁) (issuer : ℕ)
+    (lent : List Entry) (same : lent ≡ entries) where
   pub lent_ordered : IsOrdered (history_of lent)
   lent_ordered = subst (λ (e : List Entry). IsOrdered (history_of e)) (sym same) (kept_ordered judge entries certificates kept)
 

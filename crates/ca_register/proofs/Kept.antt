@@ -28,16 +28,20 @@ module _ (judge : Judge) (entries : List Entry) (certificates : List KeptCertifi
   pub kept_all : length certificates ≡ length entries
   kept_all = ∥∥₁_elim kept (ℕ_set (length certificates) (length entries)) (λ is. is.issued.all ∙ as_many entries)
 
-  pub kept_root : (grant : Grant) (cert : KeptCertificate) → IsTrue grant.ca → ((certificates : List KeptCertificate) → IsNext judge certificates (step_of (record { issuer = None; grant = grant })) cert)
+  pub kept_root : (grant : Grant) (cert : KeptCertificate) → IsTrue grant.ca
+      → ((certificates : List KeptCertificate) → IsNext judge certificates (step_of (record { issuer = None; grant = grant })) cert)
       → ∥ IsRegister judge (entries ++ record { issuer = None; grant = grant } ∷ []) (certificates ++ cert ∷ []) ∥₁
-  kept_root grant cert ca next = ∥∥₁_map kept (λ is. with_certificate judge entries certificates is (record { issuer = None; grant = grant }) cert (next certificates) (λ none. ca)
+  kept_root grant cert ca next =
+      ∥∥₁_map kept (λ is. with_certificate judge entries certificates is (record { issuer = None; grant = grant }) cert (next certificates) (λ none. ca)
       (λ issuer ancestors same are. absurd (some_is_none issuer (sym same))))
 
-  module _ (issuer : ℕ) (grant : Grant) (parent cert : KeptCertificate) (taken : AreTaken (record_steps entries issuer)) (has : HasCert certificates issuer parent) where
+  module _ (issuer : ℕ) (grant : Grant) (parent cert : KeptCertificate) (taken : AreTaken (record_steps entries issuer))
+      (has : HasCert certificates issuer parent) where
     abbrev Added : Entry
     Added = record { issuer = Some issuer; grant = grant }
 
-    module _ (is : IsRegister judge entries certificates) (recorded : IsRecordedAs (step_of Added) cert) (by : IsCertifiedBy judge parent.elements cert.elements) where
+    module _ (is : IsRegister judge entries certificates) (recorded : IsRecordedAs (step_of Added) cert)
+        (by : IsCertifiedBy judge parent.elements cert.elements) where
       next : IsNext judge certificates (step_of Added) cert
       next = record {
         recorded = recorded;
@@ -45,16 +49,19 @@ module _ (judge : Judge) (entries : List Entry) (certificates : List KeptCertifi
         issued = λ other same. (parent, subst (λ (i : ℕ). HasCert certificates i parent) (same_some issuer other same) has, by);
       }
 
-      above : (other : ℕ) (ancestors : List ℕ) → Some issuer ≡ Some other → AreAncestors (history_of entries) other ancestors → AreAuthorities (history_of entries) (other ∷ ancestors)
+      above : (other : ℕ) (ancestors : List ℕ) → Some issuer ≡ Some other → AreAncestors (history_of entries) other ancestors
+          → AreAuthorities (history_of entries) (other ∷ ancestors)
       above other ancestors same are =
           let here : other ≡ issuer = sym (same_some issuer other same) in
           subst (λ (i : ℕ). AreAuthorities (history_of entries) (i ∷ ancestors)) (sym here)
-          (authorities_above judge entries certificates is issuer taken.1.0 taken.1.1.0 ancestors (subst (λ (i : ℕ). AreAncestors (history_of entries) i ancestors) here are))
+          (authorities_above judge entries certificates is issuer taken.1.0 taken.1.1.0 ancestors
+          (subst (λ (i : ℕ). AreAncestors (history_of entries) i ancestors) here are))
 
       pub with_child : IsRegister judge (entries ++ Added ∷ []) (certificates ++ cert ∷ [])
       with_child = with_certificate judge entries certificates is Added cert next (λ none. absurd (some_is_none issuer none)) above
 
-    pub kept_child : ((key : List ℕ) → HasSubjectKey parent.elements key → ∥ IsRecordedAs (step_of Added) cert × IsCertifiedBy judge parent.elements cert.elements ∥₁)
+    pub kept_child : ((key : List ℕ) → HasSubjectKey parent.elements key
+        → ∥ IsRecordedAs (step_of Added) cert × IsCertifiedBy judge parent.elements cert.elements ∥₁)
         → ∥ IsRegister judge (entries ++ Added ∷ []) (certificates ++ cert ∷ []) ∥₁
     kept_child certified = ∥∥₁_elim kept (λ a b. squash₁ a b) (λ is.
         let issuing = is.issued.recorded issuer (step_of taken.1.0.0) parent (step_at entries issuer taken.1.0.0 taken.1.0.1) has in

@@ -91,9 +91,11 @@ identified_as line parent after of (inl (none, same)) = absurd (none_is_first CE
 identified_as line parent after of (inr (key, first, same)) =
     same ∙ ap Some (key_once key (key_id_of line.key) (first_once CE_SUBJECT_KEY_IDENTIFIER.now _ _ _ first of.identified))
 
-pub child_set : (grant : Grant) (given : DirectoryName) (own : PublicKey) (private : PrivateKey) (key : PrivateKey) (parent : KeptCertificate) (signer line : Line) (b : CertificateBuilder)
+pub child_set : (grant : Grant) (given : DirectoryName) (own : PublicKey) (private : PrivateKey) (key : PrivateKey) (parent : KeptCertificate)
+    (signer line : Line) (b : CertificateBuilder)
     (is : IsChildBuilder grant (subjects.Named given own) false key parent b)
-    → IsForLine signer parent → name (sets_of given) ≡ common_name line.name → AreLineKeys line.key private (info_of own) → IsPrivatePkcs1 (key_secret signer.key) key → IsSetFor signer line b is.issuer
+    → IsForLine signer parent → name (sets_of given) ≡ common_name line.name → AreLineKeys line.key private (info_of own)
+    → IsPrivatePkcs1 (key_secret signer.key) key → IsSetFor signer line b is.issuer
 child_set grant given own private key parent signer line b is of named keys signs = record {
   grant = grant;
   granted = is.for.granted;
@@ -143,14 +145,17 @@ module _ (signer line : Line) (b : CertificateBuilder) (issuer : IssuerInfos) (s
       → IsSubjectBy demo_verdict issuer.self_signed issuer b.authority_key_identifier b.subject_infos sets info → IsOfLine line (name sets) info
   subject_is sets info = subject_by sets info set.has
 
-  authority_by : (own : List ℕ) → HasSubject signer line b issuer → own ≡ key_id_of line.key → authority_of issuer.self_signed b.authority_key_identifier own ≡ key_id_of signer.key
-  authority_by own (inl (self, same)) e = ap (λ (s : Bool). authority_of s b.authority_key_identifier own) self ∙ e ∙ ap (λ (l : Line). key_id_of l.key) (sym same)
+  authority_by : (own : List ℕ) → HasSubject signer line b issuer → own ≡ key_id_of line.key
+      → authority_of issuer.self_signed b.authority_key_identifier own ≡ key_id_of signer.key
+  authority_by own (inl (self, same)) e = ap (λ (s : Bool). authority_of s b.authority_key_identifier own) self ∙ e
+      ∙ ap (λ (l : Line). key_id_of l.key) (sym same)
   authority_by own (inr (other, to)) e =
       ap (λ (s : Bool). authority_of s b.authority_key_identifier own) other ∙ ap (λ (a : Option (List ℕ)). authority_of false a own) to.authority
 
   pub authority_is : (own : List ℕ) → own ≡ key_id_of line.key → authority_of issuer.self_signed b.authority_key_identifier own ≡ key_id_of signer.key
   authority_is own = authority_by own set.has
 
-  pub own_is : (info : SubjectPublicKeyInfo) (own : List ℕ) (subject : DerElement) → IsOfLine line subject info → IsKeyIdentifier b.key_id_gen_method info own → own ≡ key_id_of line.key
+  pub own_is : (info : SubjectPublicKeyInfo) (own : List ℕ) (subject : DerElement) → IsOfLine line subject info → IsKeyIdentifier b.key_id_gen_method info own
+      → own ≡ key_id_of line.key
   own_is info own subject of identified =
       identifier_is (line.key ∷ []) of.private info own of.keys (subst (λ (m : KeyIdGenMethod). IsKeyIdentifier m info own) set.granted.method identified)

@@ -1,5 +1,6 @@
 -- The certificate of a line is refused for memory alone, and is for the line.
-use Rattle.std.proofs.Common.{◌≡◌, inl, inr, Bool, true, false, ℕ, ◌<◌, ◌≤◌, ◌==◌, if◌then◌else◌, List, [], ◌∷◌, ◌++◌, length, Option, Some, None, refl, sym, ap, subst, ◌∙◌, arith}
+use Rattle.std.proofs.Common.{◌≡◌, inl, inr, Bool, true, false, ℕ, ◌<◌, ◌≤◌, ◌==◌, if◌then◌else◌, List}
+use Rattle.std.proofs.Common.{[], ◌∷◌, ◌++◌, length, Option, Some, None, refl, sym, ap, subst, ◌∙◌, arith}
 use Rattle.std.specs.Prelude.{⊤}
 use Rattle.std.proofs.lemmas.Bool.{eqb-true}
 use Rattle.der_core.specs.Steps.{IsFirstUntaken, Step}
@@ -34,7 +35,8 @@ use Rattle.x509_core.specs.declared.error.CertError.TheVariants as errors
 use Rattle.x509_core.proofs.Validity.{same_some}
 use Rattle.x509_issuing.specs.BuildRefusals.{no_half, no_key_id, no_octets, no_signature}
 use Rattle.x509_issuing.specs.BuiltCertificate.{IsTbsFor, serial_of}
-use Rattle.x509_issuing.specs.Building.{IsBuilt, IsMade, algorithm_step, build_steps, given_steps, identifier_step, message_of, octets_step, signature_step, steps_by, subject_steps, tbs_written, whole_step}
+use Rattle.x509_issuing.specs.Building.{IsBuilt, IsMade, algorithm_step, build_steps, given_steps, identifier_step, message_of}
+use Rattle.x509_issuing.specs.Building.{octets_step, signature_step, steps_by, subject_steps, tbs_written, whole_step}
 use Rattle.x509_issuing.specs.KeptRequest.{KeptRequest}
 use Rattle.x509_issuing.specs.declared.builder.CertificateBuilder.{CertificateBuilder}
 use Rattle.x509_issuing.specs.declared.builder.IssuerInfos.{IssuerInfos}
@@ -65,7 +67,8 @@ sure (step ∷ steps) e are (inr (taken, later)) = sure steps e are.1 later
 is_given : {X : Type 0} (o : Option X) (x : X) → o ≡ Some x → o ≡ None → ⊥
 is_given o x e none = absurd cc
 
-not_both : (given : DirectoryName) (own : PublicKey) (csr : KeptRequest) (o : Option SubjectInfos) → o ≡ Some (subjects.Named given own) → o ≡ Some (subjects.Request csr) → ⊥
+not_both : (given : DirectoryName) (own : PublicKey) (csr : KeptRequest) (o : Option SubjectInfos) → o ≡ Some (subjects.Named given own)
+    → o ≡ Some (subjects.Request csr) → ⊥
 not_both given own csr o named requested = absurd cc
 
 some_none : {x : List ℕ} → Some x ≡ None → ⊥
@@ -91,22 +94,32 @@ subjects_sure signer line b issuer later (inr (other, to)) key are =
       ),
     )
 
-module _ (signer line : Line) (b : CertificateBuilder) (issuer : IssuerInfos) (set : IsSetFor signer line b issuer) (word : ℕ) (small : word < 256) (short : length line.name ≤ 64) (short_signer : length signer.name ≤ 64) where
+module _ (signer line : Line) (b : CertificateBuilder) (issuer : IssuerInfos) (set : IsSetFor signer line b issuer) (word : ℕ) (small : word < 256)
+    (short : length line.name ≤ 64) (short_signer : length signer.name ≤ 64) where
   all_sure : AreSure (build_steps demo_arithmetic b word)
   all_sure =
       let identifier : (x : CertError) → (identifier_step demo_verdict b issuer).refused x → x ≡ errors.Memory =
       λ x (named, info, subject, (source, is, refused)).
       let of = subject_is signer line b issuer set named info subject in
-      is ∙ ap no_key_id (identifier_or_memory (line.key ∷ []) (one_octet line.key) of.private info source of.keys (subst (λ (m : KeyIdGenMethod). RefusesKeyIdentifier m info source) set.granted.method refused)) in
+      is ∙ ap no_key_id (identifier_or_memory (line.key ∷ []) (one_octet line.key) of.private info source of.keys
+      (subst (λ (m : KeyIdGenMethod). RefusesKeyIdentifier m info source) set.granted.method refused)) in
       let algorithm : (x : CertError) → (algorithm_step b).refused x → x ≡ errors.Memory =
-      λ x (source, is, refused). is ∙ ap signature_refusal (algorithm_or_memory source (subst (λ (a : SignatureAlgorithm). IsUnwritable a source) set.granted.algorithm refused)) in
-      let octets : (x : CertError) → (octets_step demo_arithmetic b.signature_hash_type issuer.key.now (IsTbsFor demo_verdict b issuer word)).refused x → x ≡ errors.Memory =
-      λ x (tbs, of, (source, is, refused)). is ∙ ap no_octets (only_memory (tbs_written tbs) source (tbs_small signer line b issuer set word tbs of short short_signer small) refused) in
-      let signature : (x : CertError) → (signature_step demo_arithmetic b.signature_hash_type issuer.key.now (IsTbsFor demo_verdict b issuer word)).refused x → x ≡ errors.Memory =
-      λ x (tbs, of, (source, is, refused)). is ∙ ap no_signature (signature_or_memory (signer.key ∷ []) (one_octet signer.key) issuer.key.now (message_of tbs) source set.private
-      (subst (λ (a : SignatureAlgorithm). RefusesSignatureBy (sign_rules signs_by_demo a issuer.key.now (message_of tbs)) source) set.granted.algorithm refused)) in
-      let whole : (x : CertError) → (whole_step demo_arithmetic b.signature_hash_type issuer.key.now (IsTbsFor demo_verdict b issuer word)).refused x → x ≡ errors.Memory =
-      λ x (c, of, (source, is, refused)). is ∙ ap (unwritten elements.Certificate) (only_memory (written_elements c) source (certificate_small signer line b issuer set word c of short short_signer small) refused) in
+      λ x (source, is, refused). is
+      ∙ ap signature_refusal (algorithm_or_memory source (subst (λ (a : SignatureAlgorithm). IsUnwritable a source) set.granted.algorithm refused)) in
+      let octets : (x : CertError) → (octets_step demo_arithmetic b.signature_hash_type issuer.key.now (IsTbsFor demo_verdict b issuer word)).refused x
+      → x ≡ errors.Memory =
+      λ x (tbs, of, (source, is, refused)). is
+      ∙ ap no_octets (only_memory (tbs_written tbs) source (tbs_small signer line b issuer set word tbs of short short_signer small) refused) in
+      let signature : (x : CertError) → (signature_step demo_arithmetic b.signature_hash_type issuer.key.now (IsTbsFor demo_verdict b issuer word)).refused x
+      → x ≡ errors.Memory =
+      λ x (tbs, of, (source, is, refused)). is
+      ∙ ap no_signature (signature_or_memory (signer.key ∷ []) (one_octet signer.key) issuer.key.now (message_of tbs) source set.private
+      (subst (λ (a : SignatureAlgorithm). RefusesSignatureBy (sign_rules signs_by_demo a issuer.key.now (message_of tbs)) source)
+      set.granted.algorithm refused)) in
+      let whole : (x : CertError) → (whole_step demo_arithmetic b.signature_hash_type issuer.key.now (IsTbsFor demo_verdict b issuer word)).refused x
+      → x ≡ errors.Memory =
+      λ x (c, of, (source, is, refused)). is ∙ ap (unwritten elements.Certificate)
+      (only_memory (written_elements c) source (certificate_small signer line b issuer set word c of short short_signer small) refused) in
       let later : AreSure (steps_by demo_arithmetic b word (Some issuer)) =
       subjects_sure signer line b issuer _ set.has set.private
       (identifier, (algorithm, (octets, (signature, (whole, tt))))) in
@@ -130,12 +143,14 @@ module _ (signer line : Line) (b : CertificateBuilder) (issuer : IssuerInfos) (s
       let value = cert.certificate.tbs_certificate in
       let subject = subject_is signer line b issuer set value.subject value.subject_public_key_info tbs.issued_to.subject in
       let first = built_key b issuer _ _ tbs.by.extensions tbs.by.built in
-      let held = subst (λ (o : Option (List Extension)). HasFirst CE_SUBJECT_KEY_IDENTIFIER.now (extensions_in o) (views.SubjectKeyIdentifier tbs.own)) (sym tbs.by.given) first in
+      let held = subst (λ (o : Option (List Extension)). HasFirst CE_SUBJECT_KEY_IDENTIFIER.now (extensions_in o) (views.SubjectKeyIdentifier tbs.own))
+      (sym tbs.by.given) first in
       record {
         named = subject.named;
         private = subject.private;
         keys = subject.keys;
-        identified = subst (λ (k : List ℕ). HasFirst CE_SUBJECT_KEY_IDENTIFIER.now (extensions_in value.extensions) (views.SubjectKeyIdentifier k)) (own signer line b issuer set word value tbs) held;
+        identified = subst (λ (k : List ℕ). HasFirst CE_SUBJECT_KEY_IDENTIFIER.now (extensions_in value.extensions) (views.SubjectKeyIdentifier k))
+            (own signer line b issuer set word value tbs) held;
       }
 
   pub built_for : IsBuilt demo_arithmetic b word cert → IsForLine line cert
@@ -155,5 +170,6 @@ word_is (Some octets) word none some = absurd cc
 pub numbered : (grant : Grant) (b : CertificateBuilder) (word : ℕ) (cert : KeptCertificate) → IsGranted grant b → 0 < word → IsBuilt demo_arithmetic b word cert
     → IsUnsignedInteger word (integer_contents cert.certificate.tbs_certificate.serial_number)
 numbered grant b word cert granted some is =
-    subst (λ (n : ℕ). IsUnsignedInteger n (integer_contents cert.certificate.tbs_certificate.serial_number)) (word_is b.serial_number word granted.serial_number some)
+    subst (λ (n : ℕ). IsUnsignedInteger n (integer_contents cert.certificate.tbs_certificate.serial_number))
+    (word_is b.serial_number word granted.serial_number some)
     is.made.made.tbs.by.issued_by.numbered

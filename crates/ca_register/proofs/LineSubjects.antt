@@ -28,7 +28,8 @@ common_name_is = refl
 abbrev single : List ℕ → DerElement → DerElement
 single oid value = sequence (set (sequence (object_identifier_of oid ∷ value ∷ []) ∷ []) ∷ [])
 
-pub name_is : (text : List ℕ) (given : DirectoryName) → IsExtended (attribute_arcs attributes.CommonName) (utf8_value text) [] given.name → name (sets_of given) ≡ common_name text
+pub name_is : (text : List ℕ) (given : DirectoryName) → IsExtended (attribute_arcs attributes.CommonName) (utf8_value text) [] given.name
+    → name (sets_of given) ≡ common_name text
 name_is text given made =
     let attribute = made.attribute in
     let oid : identifier_contents attribute.ty ≡ AT_COMMON_NAME.now = attribute.ty.formed.spelled ∙ ap contents_of made.typed ∙ common_name_is in

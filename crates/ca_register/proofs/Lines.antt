@@ -14,7 +14,8 @@ here_within history index [] are = slice_get_within history index are.1.step are
 here_within history index (issuer ∷ ancestors) are = slice_get_within history index are.0.0.step are.0.0.is
 
 -- each ancestor is one of the history
-pub ancestor_within : (history : History) (index : ℕ) (ancestors : List ℕ) (number place : ℕ) → AreAncestors history index ancestors → slice_get ancestors number ≡ Some place → place < length history
+pub ancestor_within : (history : History) (index : ℕ) (ancestors : List ℕ) (number place : ℕ) → AreAncestors history index ancestors
+    → slice_get ancestors number ≡ Some place → place < length history
 ancestor_within history index [] number place are at = absurd (nothing_at number place at)
 ancestor_within history index (issuer ∷ ancestors) zero place are at =
     subst (λ (i : ℕ). i < length history) (same_some issuer place at) (here_within history issuer ancestors (are.0.1, are.1))
@@ -37,7 +38,8 @@ module _ (history : History) (last : IssuingStep) where
   old_root : (index : ℕ) → index < length history → IsRootStep Longer index → IsRootStep history index
   old_root index within root = record { step = root.step; is = old_step index root.step within root.is; unissued = root.unissued }
 
-  pub old_ancestors : IsOrdered Longer → (index : ℕ) (ancestors : List ℕ) → index < length history → AreAncestors Longer index ancestors → AreAncestors history index ancestors
+  pub old_ancestors : IsOrdered Longer → (index : ℕ) (ancestors : List ℕ) → index < length history → AreAncestors Longer index ancestors
+      → AreAncestors history index ancestors
   old_ancestors ordered index [] within are = (tt, old_root index within are.1)
   old_ancestors ordered index (issuer ∷ ancestors) within are =
       let earlier = ordered index issuer are.0.0 in

@@ -21,7 +21,8 @@ decimals_begin (suc n) small =
     (some, omega (arith, first), digit.1, λ e. absurd (omega (arith, e, first)))
 
 -- what is read of such octets is in decimal what they are
-pub read_is : {E : Type 0} (word : List ℕ) (number : ℕ) (result : Result ℕ E) → BeginsAsNumber word → ParsesUnsigned 64 10 word result → result ≡ Ok number → word ≡ decimal number
+pub read_is : {E : Type 0} (word : List ℕ) (number : ℕ) (result : Result ℕ E) → BeginsAsNumber word → ParsesUnsigned 64 10 word result → result ≡ Ok number
+    → word ≡ decimal number
 read_is {E} word number (Ok n) begins parses is =
     let plain = parse_plain own {E = E} 64 word (Ok n) parses (λ plus. omega (arith, plus, begins.1)) in
     let same : n ≡ number = search (rules) in

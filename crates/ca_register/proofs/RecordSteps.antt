@@ -52,10 +52,12 @@ module _ (entries : List Entry) (issuer : ℕ) where
   }
 
   same_line : (a b : List ℕ) → AreAbove entries issuer a → AreAbove entries issuer b → a ≡ b
-  same_line a b x y = x.is ∙ ap (λ (ancestors : List ℕ). issuer ∷ ancestors) (ancestors_once (history_of entries) issuer x.ancestors y.ancestors x.are y.are) ∙ sym y.is
+  same_line a b x y =
+      x.is ∙ ap (λ (ancestors : List ℕ). issuer ∷ ancestors) (ancestors_once (history_of entries) issuer x.ancestors y.ancestors x.are y.are) ∙ sym y.is
 
   not_nearer : (number other : ℕ) (x : IsFirstTooShort entries issuer number) (y : IsFirstTooShort entries issuer other) → number < other → ⊥
-  not_nearer number other x y nearer = y.first number nearer (subst (λ (line : List ℕ). IsTooShort entries line number) (same_line x.line y.line x.above y.above) x.short)
+  not_nearer number other x y nearer =
+      y.first number nearer (subst (λ (line : List ℕ). IsTooShort entries line number) (same_line x.line y.line x.above y.above) x.short)
 
   one_number : (number other : ℕ) → IsFirstTooShort entries issuer number → IsFirstTooShort entries issuer other → number ≡ other
   one_number number other x y = by (cases_lt number other) (cases_lt other number)

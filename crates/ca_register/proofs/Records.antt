@@ -15,7 +15,8 @@ pub record IsStepOf (entries : List Entry) (place : ℕ) (step : IssuingStep) : 
   pub has : HasEntry entries place entry
   pub is : step_of entry ≡ step
 
-mapped_some : (found : Option Entry) (step : IssuingStep) → option_map step_of found ≡ Some step → (entry : Entry) × (found ≡ Some entry) × (step_of entry ≡ step)
+mapped_some : (found : Option Entry) (step : IssuingStep) → option_map step_of found ≡ Some step
+    → (entry : Entry) × (found ≡ Some entry) × (step_of entry ≡ step)
 mapped_some None step e = absurd cc
 mapped_some (Some entry) step e = (entry, refl, same_some (step_of entry) step e)
 
@@ -30,7 +31,8 @@ step_at entries place entry has = slice_get-map step_of entries place ∙ ap (op
 pub as_many : (entries : List Entry) → length (history_of entries) ≡ length entries
 as_many entries = length-map entries step_of
 
-pub issued_at : (entries : List Entry) (place issuer : ℕ) (entry : Entry) → HasEntry entries place entry → entry.issuer ≡ Some issuer → HasIssuer (history_of entries) place issuer
+pub issued_at : (entries : List Entry) (place issuer : ℕ) (entry : Entry) → HasEntry entries place entry → entry.issuer ≡ Some issuer
+    → HasIssuer (history_of entries) place issuer
 issued_at entries place issuer entry has issued = record { step = step_of entry; is = step_at entries place entry has; issued = issued }
 
 pub root_at : (entries : List Entry) (place : ℕ) (entry : Entry) → HasEntry entries place entry → entry.issuer ≡ None → IsRootStep (history_of entries) place

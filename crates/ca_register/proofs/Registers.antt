@@ -38,8 +38,10 @@ module _ (judge : Judge) (entries : List Entry) (certificates : List KeptCertifi
   abbrev Steps : History
   Steps = history_of entries
 
-  module _ (issuer : ℕ) (able : (entry : Entry) × HasEntry entries issuer entry × IsTrue entry.grant.ca) (deep : NoneTooShort entries issuer) (ancestors : List ℕ) (are : AreAncestors Steps issuer ancestors) where
-    deep_enough : (number place : ℕ) (step : IssuingStep) → slice_get (issuer ∷ ancestors) number ≡ Some place → HasStep Steps place step → (limit : ℕ) → step.pathlen ≡ Some limit → number ≤ limit
+  module _ (issuer : ℕ) (able : (entry : Entry) × HasEntry entries issuer entry × IsTrue entry.grant.ca) (deep : NoneTooShort entries issuer)
+      (ancestors : List ℕ) (are : AreAncestors Steps issuer ancestors) where
+    deep_enough : (number place : ℕ) (step : IssuingStep) → slice_get (issuer ∷ ancestors) number ≡ Some place → HasStep Steps place step → (limit : ℕ)
+        → step.pathlen ≡ Some limit → number ≤ limit
     deep_enough number place step at has limit limited = by (cases_lt limit number)
       where
         of : IsStepOf entries place step
@@ -47,7 +49,15 @@ module _ (judge : Judge) (entries : List Entry) (certificates : List KeptCertifi
 
         by : (limit < number) ⊎ (number ≤ limit) → number ≤ limit
         by (inl short) = absurd (deep (issuer ∷ ancestors) number (record { ancestors = ancestors; is = refl; are = are })
-            (record { place = place; at = at; entry = of.entry; has = of.has; limit = limit; limited = ap (λ (s : IssuingStep). s.pathlen) of.is ∙ limited; short = short }))
+            (record {
+              place = place;
+              at = at;
+              entry = of.entry;
+              has = of.has;
+              limit = limit;
+              limited = ap (λ (s : IssuingStep). s.pathlen) of.is ∙ limited;
+              short = short;
+            }))
         by (inr enough) = enough
 
     ca_at : (number place : ℕ) (step : IssuingStep) → slice_get (issuer ∷ ancestors) number ≡ Some place → HasStep Steps place step → IsTrue step.ca
@@ -63,7 +73,8 @@ module _ (judge : Judge) (entries : List Entry) (certificates : List KeptCertifi
   -- ---- the certificate itself
 
   module _ (entry : Entry) (cert : KeptCertificate) (next : IsNext judge certificates (step_of entry) cert) (root : entry.issuer ≡ None → IsTrue entry.grant.ca)
-      (able : (issuer : ℕ) (ancestors : List ℕ) → entry.issuer ≡ Some issuer → AreAncestors Steps issuer ancestors → AreAuthorities Steps (issuer ∷ ancestors)) where
+      (able : (issuer : ℕ) (ancestors : List ℕ) → entry.issuer ≡ Some issuer → AreAncestors Steps issuer ancestors
+      → AreAuthorities Steps (issuer ∷ ancestors)) where
     abbrev Longer : History
     Longer = Steps ++ step_of entry ∷ []
 
@@ -72,10 +83,13 @@ module _ (judge : Judge) (entries : List Entry) (certificates : List KeptCertifi
 
     -- what holds of ancestors still holds
     still : (place : ℕ) (ancestors : List ℕ) → AreAncestors Steps place ancestors → AreAuthorities Steps ancestors → AreAuthorities Longer ancestors
-    still place ancestors are hold number ancestor step at has = hold number ancestor step at (old_step Steps (step_of entry) ancestor step (ancestor_within Steps place ancestors number ancestor are at) has)
+    still place ancestors are hold number ancestor step at has =
+        hold number ancestor step at (old_step Steps (step_of entry) ancestor step (ancestor_within Steps place ancestors number ancestor are at) has)
 
-    still_above : (issuer : ℕ) (ancestors : List ℕ) → AreAncestors Steps issuer ancestors → AreAuthorities Steps (issuer ∷ ancestors) → AreAuthorities Longer (issuer ∷ ancestors)
-    still_above issuer ancestors are hold number ancestor step at has = hold number ancestor step at (old_step Steps (step_of entry) ancestor step (within number at) has)
+    still_above : (issuer : ℕ) (ancestors : List ℕ) → AreAncestors Steps issuer ancestors → AreAuthorities Steps (issuer ∷ ancestors)
+        → AreAuthorities Longer (issuer ∷ ancestors)
+    still_above issuer ancestors are hold number ancestor step at has =
+        hold number ancestor step at (old_step Steps (step_of entry) ancestor step (within number at) has)
       where
         within : (number : ℕ) → slice_get (issuer ∷ ancestors) number ≡ Some ancestor → ancestor < length Steps
         within zero at = subst (λ (i : ℕ). i < length Steps) (same_some issuer ancestor at) (issuer_within ancestors are)

@@ -9,7 +9,8 @@ use Rattle.asn1_types.specs.Time.{day_of, month_of, two_digits, year_of}
 use Rattle.asn1_types.specs.declared.generalized_time.GeneralizedTime.{GeneralizedTime}
 use Rattle.program_frame.specs.DateWord.{IsMidnight, day_text}
 use Rattle.sig_core.specs.VerdictTable.{space}
-use Rattle.ca_register.specs.Lines.{IsIssuer, IsLetterOrDigit, IsLimits, IsLine, IsLineOfWords, IsName, IsPathLength, IsWord, Line, ca_word, dates_words, first_word, granted_words, hex_digit, issued_words, key_word, keyed_words, limits_words, line_words, named_words, path_word}
+use Rattle.ca_register.specs.Lines.{IsIssuer, IsLetterOrDigit, IsLimits, IsLine, IsLineOfWords, IsName, IsPathLength, IsWord, Line, ca_word, dates_words}
+use Rattle.ca_register.specs.Lines.{first_word, granted_words, hex_digit, issued_words, key_word, keyed_words, limits_words, line_words, named_words, path_word}
 use Rattle.ca_register.specs.declared.text.line.Limits.{Limits}
 
 -- ---- from index to recursion
@@ -69,16 +70,20 @@ most_days year month = by (month == 2) (is_leap_year year) ((month == 4) || (mon
 pub day_is_word : (date : GeneralizedTime) → IsMidnight date → IsWord (day_text date)
 day_is_word date is =
     let day = date.exists.date in
-    graphic_joined (two_digits (year_of date / 100)) (two_digits (year_of date % 100) ++ codes "-" ++ two_digits (month_of date) ++ codes "-" ++ two_digits (day_of date)) (graphic_digits (date.year / 100) (omega (arith, day.four_digits)))
-    (graphic_joined (two_digits (year_of date % 100)) (codes "-" ++ two_digits (month_of date) ++ codes "-" ++ two_digits (day_of date)) (graphic_digits (date.year % 100) (omega arith)) (graphic_joined (codes "-") (two_digits (month_of date) ++ codes "-" ++ two_digits (day_of date)) dash_is_word
-    (graphic_joined (two_digits (month_of date)) (codes "-" ++ two_digits (day_of date)) (graphic_digits date.month (omega (arith, day.last_month))) (graphic_joined (codes "-") (two_digits (day_of date)) dash_is_word
+    graphic_joined (two_digits (year_of date / 100)) (two_digits (year_of date % 100) ++ codes "-" ++ two_digits (month_of date) ++ codes "-"
+    ++ two_digits (day_of date)) (graphic_digits (date.year / 100) (omega (arith, day.four_digits)))
+    (graphic_joined (two_digits (year_of date % 100)) (codes "-" ++ two_digits (month_of date) ++ codes "-" ++ two_digits (day_of date)) (graphic_digits
+    (date.year % 100) (omega arith)) (graphic_joined (codes "-") (two_digits (month_of date) ++ codes "-" ++ two_digits (day_of date)) dash_is_word
+    (graphic_joined (two_digits (month_of date)) (codes "-" ++ two_digits (day_of date)) (graphic_digits date.month (omega (arith, day.last_month)))
+    (graphic_joined (codes "-") (two_digits (day_of date)) dash_is_word
     (graphic_digits date.day (omega (arith, day.last_day, most_days (year_of date) (month_of date))))))))
 
 -- ---- the first word
 
 pub first_is_word : (issuer : Option ℕ) → IsWord (first_word issuer)
 first_is_word None = ((omega arith, omega arith), ((omega arith, omega arith), ((omega arith, omega arith), ((omega arith, omega arith), tt))))
-first_is_word (Some issuer) = ((omega arith, omega arith), ((omega arith, omega arith), ((omega arith, omega arith), ((omega arith, omega arith), ((omega arith, omega arith), tt)))))
+first_is_word (Some issuer) =
+    ((omega arith, omega arith), ((omega arith, omega arith), ((omega arith, omega arith), ((omega arith, omega arith), ((omega arith, omega arith), tt)))))
 
 -- ---- a line of words
 
@@ -111,7 +116,8 @@ issued_in_line (Some issuer) line from is =
     joined (decimal issuer) (keyed_words (Some issuer) line) (decimal_is_word issuer (omega (arith, from))) (keyed_in_line (Some issuer) line is)
 
 pub line_in_line : (line : Line) → IsLine line → IsLineOfWords (line_words line)
-line_in_line line is = joined (first_word line.issuer) (issued_words line.issuer line) (first_is_word line.issuer) (issued_in_line line.issuer line is.issuer is)
+line_in_line line is =
+    joined (first_word line.issuer) (issued_words line.issuer line) (first_is_word line.issuer) (issued_in_line line.issuer line is.issuer is)
 
 -- ---- what is read
 

@@ -1,5 +1,6 @@
 -- The parts of a line's TBSCertificate: what they are, or how large they are at most.
-use Rattle.std.proofs.Common.{◌≡◌, Bool, true, false, IsTrue, nat_lt, if◌then◌else◌, ℕ, ◌+◌, ◌*◌, ◌<◌, ◌≤◌, List, [], ◌∷◌, ◌++◌, length, Option, Some, None, refl, sym, ap, ap₂, subst, ◌∙◌, arith}
+use Rattle.std.proofs.Common.{◌≡◌, Bool, true, false, IsTrue, nat_lt, if◌then◌else◌, ℕ, ◌+◌, ◌*◌, ◌<◌, ◌≤◌, List}
+use Rattle.std.proofs.Common.{[], ◌∷◌, ◌++◌, length, Option, Some, None, refl, sym, ap, ap₂, subst, ◌∙◌, arith}
 use Rattle.sha2.proofs.Facts256.{length-sha256}
 use Rattle.der_core.specs.Default.{default_false}
 use Rattle.der_core.specs.DerElement.{DerElement}
@@ -9,7 +10,8 @@ use Rattle.der_core.specs.Head.{number_from}
 use Rattle.der_core.specs.Lent.{kept_option}
 use Rattle.asn1_types.specs.Elements.{object_identifier_of, time}
 use Rattle.asn1_types.specs.Integer.{IsUnsignedInteger}
-use Rattle.asn1_types.specs.declared.oids.TheConstants.{CE_AUTHORITY_KEY_IDENTIFIER, CE_BASIC_CONSTRAINTS, CE_SUBJECT_KEY_IDENTIFIER, CE_KEY_USAGE, CE_EXT_KEY_USAGE, CE_SUBJECT_ALT_NAME, CE_ISSUER_ALT_NAME, SHA256_WITH_RSA_ENCRYPTION}
+use Rattle.asn1_types.specs.declared.oids.TheConstants.{CE_AUTHORITY_KEY_IDENTIFIER, CE_BASIC_CONSTRAINTS, CE_SUBJECT_KEY_IDENTIFIER, CE_KEY_USAGE}
+use Rattle.asn1_types.specs.declared.oids.TheConstants.{CE_EXT_KEY_USAGE, CE_SUBJECT_ALT_NAME, CE_ISSUER_ALT_NAME, SHA256_WITH_RSA_ENCRYPTION}
 use Rattle.asn1_types.specs.declared.time.Time.{Time}
 use Rattle.asn1_types.specs.declared.time.Time.TheVariants as times
 use Rattle.extension_types.specs.AuthorityKeyIdentifier.{authority_key_of, key_of_identifier}
@@ -81,7 +83,8 @@ name_size text short = omega (arith, short)
 some_once : (a b : List ℕ) → Some a ≡ Some b → a ≡ b
 some_once a b e = cc
 
-pub algorithm_is : (id : AlgorithmIdentifier) → IsWrittenAlgorithm (RsaPkcs1v15 SHA2_256) id → algorithm_identifier id ≡ with_null SHA256_WITH_RSA_ENCRYPTION.now
+pub algorithm_is : (id : AlgorithmIdentifier) → IsWrittenAlgorithm (RsaPkcs1v15 SHA2_256) id
+    → algorithm_identifier id ≡ with_null SHA256_WITH_RSA_ENCRYPTION.now
 algorithm_is id is =
     ap (λ (c : List ℕ). algorithm_of (object_identifier_of c) (kept_option id.parameters)) (sym (some_once _ _ is.identifier))
     ∙ ap (λ (p : Option DerElement). algorithm_of (object_identifier_of SHA256_WITH_RSA_ENCRYPTION.now) p) is.parameters
@@ -112,10 +115,12 @@ not_critical : (critical : Bool) → (IsTrue critical → ⊥) → critical ≡ 
 not_critical true never = absurd (never refl)
 not_critical false never = refl
 
-pub plain_flag : (grant : Grant) (b : CertificateBuilder) (critical : Bool) → IsGranted grant b → (IsTrue critical → IsForSignatures b.key_usage) → critical ≡ false
+pub plain_flag : (grant : Grant) (b : CertificateBuilder) (critical : Bool) → IsGranted grant b → (IsTrue critical → IsForSignatures b.key_usage)
+    → critical ≡ false
 plain_flag grant b critical granted flagged = not_critical critical (λ t. subst IsForSignatures granted.key_usage (flagged t))
 
-extension_is : (oid : List ℕ) (critical : Bool) (view : ExtensionView) (e : Extension) → IsWantedExtension (record { oid = oid; critical = critical; value = view }) e
+extension_is : (oid : List ℕ) (critical : Bool) (view : ExtensionView) (e : Extension)
+    → IsWantedExtension (record { oid = oid; critical = critical; value = view }) e
     → critical ≡ false → extension e ≡ sequence (object_identifier_of oid ∷ octet_string (value_octets view) ∷ [])
 extension_is oid critical view e is plain =
     ap (λ (o : List ℕ). sequence (object_identifier_of o ∷ (default_false e.critical ++ octet_string (value_octets e.extn_value) ∷ []))) is.named
@@ -154,7 +159,8 @@ module _ (grant : Grant) (b : CertificateBuilder) (granted : IsGranted grant b) 
       let names = ap₂ (λ (x y : List WantedExtension). x ++ y) subject issuers in
       ap₂ (λ (x y : List WantedExtension). Basic ∷ (x ++ (y ++ wanted_keys own authority))) uses names
 
-  module _ (made : List Extension) (are_made : AreWanted (wanted b critical own authority) made) (key signer : ℕ) (own_is : own ≡ key_id_of key) (by : authority ≡ key_id_of signer) where
+  module _ (made : List Extension) (are_made : AreWanted (wanted b critical own authority) made) (key signer : ℕ) (own_is : own ≡ key_id_of key)
+      (by : authority ≡ key_id_of signer) where
     parts : AreThree Basic (record { oid = CE_SUBJECT_KEY_IDENTIFIER.now; critical = false; value = views.SubjectKeyIdentifier own })
         (record { oid = CE_AUTHORITY_KEY_IDENTIFIER.now; critical = false; value = views.AuthorityKeyIdentifier (key_of_identifier authority) }) made
     parts = three Basic _ _ made (subst (λ (w : List WantedExtension). AreWanted w made) wanted_is are_made)
@@ -165,14 +171,17 @@ module _ (grant : Grant) (b : CertificateBuilder) (granted : IsGranted grant b) 
         extension_is CE_BASIC_CONSTRAINTS.now critical (constraints_of b) parts.first parts.is_first plain in
         let two : extension parts.second ≡ extension_of CE_SUBJECT_KEY_IDENTIFIER.now (own_identifier key) =
         extension_is CE_SUBJECT_KEY_IDENTIFIER.now false (views.SubjectKeyIdentifier own) parts.second parts.is_second refl
-        ∙ ap (λ (k : List ℕ). sequence (object_identifier_of CE_SUBJECT_KEY_IDENTIFIER.now ∷ octet_string (value_octets (views.SubjectKeyIdentifier k)) ∷ [])) own_is in
+        ∙ ap (λ (k : List ℕ). sequence (object_identifier_of CE_SUBJECT_KEY_IDENTIFIER.now ∷ octet_string (value_octets (views.SubjectKeyIdentifier k)) ∷ []))
+        own_is in
         let more : extension parts.third ≡ extension_of CE_AUTHORITY_KEY_IDENTIFIER.now (authority_identifier signer) =
         extension_is CE_AUTHORITY_KEY_IDENTIFIER.now false (views.AuthorityKeyIdentifier (key_of_identifier authority)) parts.third parts.is_third refl
-        ∙ ap (λ (k : List ℕ). sequence (object_identifier_of CE_AUTHORITY_KEY_IDENTIFIER.now ∷ octet_string (value_octets (views.AuthorityKeyIdentifier (key_of_identifier k))) ∷ [])) by in
+        ∙ ap (λ (k : List ℕ). sequence (object_identifier_of CE_AUTHORITY_KEY_IDENTIFIER.now
+        ∷ octet_string (value_octets (views.AuthorityKeyIdentifier (key_of_identifier k))) ∷ [])) by in
         ap extensions parts.are
         ∙ ap (λ (x : DerElement). sequence (x ∷ extension parts.second ∷ extension parts.third ∷ [])) one
         ∙ ap (λ (x : DerElement). sequence (extension_of CE_BASIC_CONSTRAINTS.now (constraints_in b.ca b.pathlen) ∷ x ∷ extension parts.third ∷ [])) two
-        ∙ ap (λ (x : DerElement). sequence (extension_of CE_BASIC_CONSTRAINTS.now (constraints_in b.ca b.pathlen) ∷ extension_of CE_SUBJECT_KEY_IDENTIFIER.now (own_identifier key) ∷ x ∷ [])) more
+        ∙ ap (λ (x : DerElement). sequence (extension_of CE_BASIC_CONSTRAINTS.now (constraints_in b.ca b.pathlen)
+        ∷ extension_of CE_SUBJECT_KEY_IDENTIFIER.now (own_identifier key) ∷ x ∷ [])) more
 
     pub values_are : inner_extensions made ≡ constraints_in b.ca b.pathlen ∷ own_identifier key ∷ authority_identifier signer ∷ []
     values_are =
@@ -221,4 +230,12 @@ authority_small signer = record { nested = omega arith; light = omega (arith, au
 
 pub extensions_size : (key signer : ℕ) (ca : Bool) (path_length : Option ℕ) → size (line_extensions key signer (constraints_in ca path_length)) ≤ 300
 extensions_size key signer ca path_length =
-    omega (arith, within_size (constraints_in ca path_length), constraints_size ca path_length, within_size (own_identifier key), own_size key, within_size (authority_identifier signer), authority_size signer)
+    omega (
+      arith,
+      within_size (constraints_in ca path_length),
+      constraints_size ca path_length,
+      within_size (own_identifier key),
+      own_size key,
+      within_size (authority_identifier signer),
+      authority_size signer,
+    )

@@ -1,5 +1,6 @@
 -- What is written for the certificate of a line is small.
-use Rattle.std.proofs.Common.{◌≡◌, Bool, true, false, ◌==◌, if◌then◌else◌, ℕ, ◌<◌, ◌≤◌, List, [], ◌∷◌, ◌++◌, length, Option, Some, None, sym, ap, subst, ◌∙◌, arith}
+use Rattle.std.proofs.Common.{◌≡◌, Bool, true, false, ◌==◌, if◌then◌else◌, ℕ, ◌<◌, ◌≤◌, List, []}
+use Rattle.std.proofs.Common.{◌∷◌, ◌++◌, length, Option, Some, None, sym, ap, subst, ◌∙◌, arith}
 use Rattle.std.specs.Option.{option_map}
 use Rattle.der_core.specs.DerElement.{DerElement}
 use Rattle.der_core.specs.Elements.{sequence}
@@ -42,9 +43,12 @@ use Rattle.key_core.proofs.SmallRefusals.{key_size, rsa_small}
 use Rattle.ca_register.proofs.LineBuilders.{IsOfLine, IsSetFor, authority_is, own_is, subject_is}
 use Rattle.ca_register.proofs.LineSubjects.{one_octet}
 use Rattle.der_core.specs.Size.{AreSmall, IsSmall, size}
-use Rattle.ca_register.proofs.TbsParts.{algorithm_is, authority_identifier, authority_small, constraints_in, constraints_small, extensions_are, extensions_size, line_extensions, name_size, own_identifier, own_small, plain_flag, serial_length, validity_nested, validity_size, values_are}
+use Rattle.ca_register.proofs.TbsParts.{algorithm_is, authority_identifier, authority_small, constraints_in, constraints_small}
+use Rattle.ca_register.proofs.TbsParts.{extensions_are, extensions_size, line_extensions, name_size, own_identifier, own_small}
+use Rattle.ca_register.proofs.TbsParts.{plain_flag, serial_length, validity_nested, validity_size, values_are}
 
-abbrev tbs_by : Option DerElement → List ℕ → DerElement → DerElement → DerElement → DerElement → DerElement → Option (List ℕ) → Option (List ℕ) → Option DerElement → DerElement
+abbrev tbs_by : Option DerElement → List ℕ → DerElement → DerElement → DerElement → DerElement → DerElement → Option (List ℕ) → Option (List ℕ)
+    → Option DerElement → DerElement
 tbs_by v n a i d s k iu su e =
     tbs_of (record {
       version = v;
@@ -62,7 +66,8 @@ tbs_by v n a i d s k iu su e =
 -- the TBSCertificate of a line, by its serial number, its validity and its basic constraints
 abbrev line_tbs : (signer line : Line) → List ℕ → Validity → DerElement → DerElement
 line_tbs signer line serial dates constraints =
-    tbs_by (Some (integer_of (2 ∷ []))) serial (with_null SHA256_WITH_RSA_ENCRYPTION.now) (common_name signer.name) (validity dates) (common_name line.name) (key_info_of line.key) None None
+    tbs_by (Some (integer_of (2 ∷ []))) serial (with_null SHA256_WITH_RSA_ENCRYPTION.now) (common_name signer.name) (validity dates) (common_name line.name)
+    (key_info_of line.key) None None
     (Some (line_extensions line.key signer.key constraints))
 
 pick : (test : Bool) (word : ℕ) → word < 256 → (if test then 1 else word) < 256
@@ -73,7 +78,8 @@ serial_small : (given : Option (List ℕ)) (word : ℕ) → given ≡ None → w
 serial_small None word none small = pick (word == 0) word small
 serial_small (Some octets) word none small = absurd cc
 
-module _ (signer line : Line) (b : CertificateBuilder) (issuer : IssuerInfos) (set : IsSetFor signer line b issuer) (word : ℕ) (tbs : TbsCertificate) (built_for : IsTbsFor demo_verdict b issuer word tbs) where
+module _ (signer line : Line) (b : CertificateBuilder) (issuer : IssuerInfos) (set : IsSetFor signer line b issuer) (word : ℕ) (tbs : TbsCertificate)
+    (built_for : IsTbsFor demo_verdict b issuer word tbs) where
   subject : IsOfLine line (name tbs.subject) tbs.subject_public_key_info
   subject = subject_is signer line b issuer set tbs.subject tbs.subject_public_key_info built_for.issued_to.subject
 
@@ -90,7 +96,8 @@ module _ (signer line : Line) (b : CertificateBuilder) (issuer : IssuerInfos) (s
   extended =
       let built = built_for.by.built in
       ap (option_map extensions) built_for.by.given ∙ ap (λ (x : List Extension). Some (extensions x)) listed
-      ∙ ap Some (extensions_are set.grant b set.granted built.critical built_for.own _ built.made built.are_made line.key signer.key own authority (plain_flag set.grant b built.critical set.granted built.flagged.0))
+      ∙ ap Some (extensions_are set.grant b set.granted built.critical built_for.own _ built.made built.are_made line.key signer.key own authority
+      (plain_flag set.grant b built.critical set.granted built.flagged.0))
 
   -- ---- what it wraps in strings
 
@@ -99,10 +106,12 @@ module _ (signer line : Line) (b : CertificateBuilder) (issuer : IssuerInfos) (s
       let built = built_for.by.built in
       let half = half_of (line.key ∷ []) subject.private tbs.subject_public_key_info subject.keys in
       ap (λ (k : SubjectKey). inner_key k ++ inner_option inner_extensions tbs.extensions) half.is
-      ∙ ap (λ (r : DerElement). r ∷ inner_option inner_extensions tbs.extensions) (rsa_is (line.key ∷ []) subject.private tbs.subject_public_key_info subject.keys)
+      ∙ ap (λ (r : DerElement). r ∷ inner_option inner_extensions tbs.extensions)
+      (rsa_is (line.key ∷ []) subject.private tbs.subject_public_key_info subject.keys)
       ∙ ap (λ (e : Option (List Extension)). rsa_key_of line.key ∷ inner_option inner_extensions e) built_for.by.given
       ∙ ap (λ (e : List Extension). rsa_key_of line.key ∷ inner_extensions e) listed
-      ∙ ap (λ (i : List DerElement). rsa_key_of line.key ∷ i) (values_are set.grant b set.granted built.critical built_for.own _ built.made built.are_made line.key signer.key own authority)
+      ∙ ap (λ (i : List DerElement). rsa_key_of line.key ∷ i)
+      (values_are set.grant b set.granted built.critical built_for.own _ built.made built.are_made line.key signer.key own authority)
 
   pub inner_small : (element : DerElement) → IsSmall element → AreSmall (inner_tbs tbs ++ element ∷ [])
   inner_small element small =
@@ -117,23 +126,43 @@ module _ (signer line : Line) (b : CertificateBuilder) (issuer : IssuerInfos) (s
       algorithm_is tbs.signature (subst (λ (a : SignatureAlgorithm). IsWrittenAlgorithm a tbs.signature) set.granted.algorithm built_for.by.issued_by.signs) in
       let issued : name tbs.issuer ≡ common_name signer.name = ap name built_for.by.issued_by.named ∙ set.named in
       let keyed = info_is (line.key ∷ []) subject.private tbs.subject_public_key_info subject.keys in
-      ap (λ v. tbs_by v (integer_contents tbs.serial_number) (algorithm_identifier tbs.signature) (name tbs.issuer) (validity tbs.validity) (name tbs.subject) (public_key_info tbs.subject_public_key_info) tbs.issuer_unique_id tbs.subject_unique_id (option_map extensions tbs.extensions)) (ap (option_map version) built_for.by.version)
-      ∙ ap (λ a. tbs_by (Some (integer_of (2 ∷ []))) (integer_contents tbs.serial_number) a (name tbs.issuer) (validity tbs.validity) (name tbs.subject) (public_key_info tbs.subject_public_key_info) tbs.issuer_unique_id tbs.subject_unique_id (option_map extensions tbs.extensions)) algorithm
-      ∙ ap (λ i. tbs_by (Some (integer_of (2 ∷ []))) (integer_contents tbs.serial_number) (with_null SHA256_WITH_RSA_ENCRYPTION.now) i (validity tbs.validity) (name tbs.subject) (public_key_info tbs.subject_public_key_info) tbs.issuer_unique_id tbs.subject_unique_id (option_map extensions tbs.extensions)) issued
-      ∙ ap (λ s. tbs_by (Some (integer_of (2 ∷ []))) (integer_contents tbs.serial_number) (with_null SHA256_WITH_RSA_ENCRYPTION.now) (common_name signer.name) (validity tbs.validity) s (public_key_info tbs.subject_public_key_info) tbs.issuer_unique_id tbs.subject_unique_id (option_map extensions tbs.extensions)) subject.named
-      ∙ ap (λ k. tbs_by (Some (integer_of (2 ∷ []))) (integer_contents tbs.serial_number) (with_null SHA256_WITH_RSA_ENCRYPTION.now) (common_name signer.name) (validity tbs.validity) (common_name line.name) k tbs.issuer_unique_id tbs.subject_unique_id (option_map extensions tbs.extensions)) keyed
-      ∙ ap (λ u. tbs_by (Some (integer_of (2 ∷ []))) (integer_contents tbs.serial_number) (with_null SHA256_WITH_RSA_ENCRYPTION.now) (common_name signer.name) (validity tbs.validity) (common_name line.name) (key_info_of line.key) u tbs.subject_unique_id (option_map extensions tbs.extensions)) built_for.by.issuer_unique_id
-      ∙ ap (λ u. tbs_by (Some (integer_of (2 ∷ []))) (integer_contents tbs.serial_number) (with_null SHA256_WITH_RSA_ENCRYPTION.now) (common_name signer.name) (validity tbs.validity) (common_name line.name) (key_info_of line.key) None u (option_map extensions tbs.extensions)) built_for.by.subject_unique_id
-      ∙ ap (λ e. tbs_by (Some (integer_of (2 ∷ []))) (integer_contents tbs.serial_number) (with_null SHA256_WITH_RSA_ENCRYPTION.now) (common_name signer.name) (validity tbs.validity) (common_name line.name) (key_info_of line.key) None None e) extended
+      ap (λ v. tbs_by v (integer_contents tbs.serial_number) (algorithm_identifier tbs.signature) (name tbs.issuer) (validity tbs.validity)
+      (name tbs.subject) (public_key_info tbs.subject_public_key_info) tbs.issuer_unique_id tbs.subject_unique_id (option_map extensions tbs.extensions))
+      (ap (option_map version) built_for.by.version)
+      ∙ ap (λ a. tbs_by (Some (integer_of (2 ∷ []))) (integer_contents tbs.serial_number) a (name tbs.issuer) (validity tbs.validity) (name tbs.subject)
+      (public_key_info tbs.subject_public_key_info) tbs.issuer_unique_id tbs.subject_unique_id (option_map extensions tbs.extensions)) algorithm
+      ∙ ap (λ i. tbs_by (Some (integer_of (2 ∷ []))) (integer_contents tbs.serial_number) (with_null SHA256_WITH_RSA_ENCRYPTION.now) i (validity tbs.validity)
+      (name tbs.subject) (public_key_info tbs.subject_public_key_info) tbs.issuer_unique_id tbs.subject_unique_id (option_map extensions tbs.extensions)) issued
+      ∙ ap (λ s. tbs_by (Some (integer_of (2 ∷ []))) (integer_contents tbs.serial_number) (with_null SHA256_WITH_RSA_ENCRYPTION.now) (common_name signer.name)
+      (validity tbs.validity) s (public_key_info tbs.subject_public_key_info) tbs.issuer_unique_id tbs.subject_unique_id (option_map extensions tbs.extensions))
+      subject.named
+      ∙ ap (λ k. tbs_by (Some (integer_of (2 ∷ []))) (integer_contents tbs.serial_number) (with_null SHA256_WITH_RSA_ENCRYPTION.now) (common_name signer.name)
+      (validity tbs.validity) (common_name line.name) k tbs.issuer_unique_id tbs.subject_unique_id (option_map extensions tbs.extensions)) keyed
+      ∙ ap (λ u. tbs_by (Some (integer_of (2 ∷ []))) (integer_contents tbs.serial_number) (with_null SHA256_WITH_RSA_ENCRYPTION.now) (common_name signer.name)
+      (validity tbs.validity) (common_name line.name) (key_info_of line.key) u tbs.subject_unique_id (option_map extensions tbs.extensions))
+      built_for.by.issuer_unique_id
+      ∙ ap (λ u. tbs_by (Some (integer_of (2 ∷ []))) (integer_contents tbs.serial_number) (with_null SHA256_WITH_RSA_ENCRYPTION.now) (common_name signer.name)
+      (validity tbs.validity) (common_name line.name) (key_info_of line.key) None u (option_map extensions tbs.extensions)) built_for.by.subject_unique_id
+      ∙ ap (λ e. tbs_by (Some (integer_of (2 ∷ []))) (integer_contents tbs.serial_number) (with_null SHA256_WITH_RSA_ENCRYPTION.now) (common_name signer.name)
+      (validity tbs.validity) (common_name line.name) (key_info_of line.key) None None e) extended
 
   -- with names of at most 64 octets and a serial number below 256
   module _ (short : length line.name ≤ 64) (short_signer : length signer.name ≤ 64) (small : word < 256) where
     serial : length (integer_contents tbs.serial_number) ≤ 2
-    serial = serial_length (serial_of b.serial_number word) (integer_contents tbs.serial_number) (serial_small b.serial_number word set.granted.serial_number small) built_for.by.issued_by.numbered
+    serial = serial_length (serial_of b.serial_number word) (integer_contents tbs.serial_number)
+        (serial_small b.serial_number word set.granted.serial_number small) built_for.by.issued_by.numbered
 
     pub tbs_size : size (tbs_certificate tbs) ≤ 1000
     tbs_size = subst (λ (t : DerElement). size t ≤ 1000) (sym tbs_is)
-        (omega (arith, serial, validity_size tbs.validity, name_size line.name short, name_size signer.name short_signer, key_size (line.key ∷ []) (one_octet line.key), extensions_size line.key signer.key b.ca b.pathlen))
+        (omega (
+          arith,
+          serial,
+          validity_size tbs.validity,
+          name_size line.name short,
+          name_size signer.name short_signer,
+          key_size (line.key ∷ []) (one_octet line.key),
+          extensions_size line.key signer.key b.ca b.pathlen,
+        ))
 
     pub tbs_nested : nesting (tbs_certificate tbs) ≤ 10
     tbs_nested = subst (λ (t : DerElement). nesting t ≤ 10) (sym tbs_is) (omega (arith, validity_nested tbs.validity))
@@ -151,12 +180,14 @@ module _ (signer line : Line) (b : CertificateBuilder) (issuer : IssuerInfos) (s
       let public = info_beside issuer.key.now set.private.rsa set.private.container in
       let pair = keys_pair (signer.key ∷ []) (one_octet signer.key) issuer.key.now public (keys_beside (signer.key ∷ []) issuer.key.now set.private) in
       signature_length public (message_of c.tbs_certificate) (payload_of c.signature_value)
-      (subst (λ (a : SignatureAlgorithm). Accepts demo_verdict a public (message_of c.tbs_certificate) (payload_of c.signature_value)) set.granted.algorithm (made.accepted public pair))
+      (subst (λ (a : SignatureAlgorithm). Accepts demo_verdict a public (message_of c.tbs_certificate) (payload_of c.signature_value)) set.granted.algorithm
+      (made.accepted public pair))
 
   algorithm : algorithm_identifier c.signature_algorithm ≡ with_null SHA256_WITH_RSA_ENCRYPTION.now
   algorithm =
       ap algorithm_identifier made.beside
-      ∙ algorithm_is c.tbs_certificate.signature (subst (λ (a : SignatureAlgorithm). IsWrittenAlgorithm a c.tbs_certificate.signature) set.granted.algorithm made.tbs.by.issued_by.signs)
+      ∙ algorithm_is c.tbs_certificate.signature
+      (subst (λ (a : SignatureAlgorithm). IsWrittenAlgorithm a c.tbs_certificate.signature) set.granted.algorithm made.tbs.by.issued_by.signs)
 
   abbrev Around : DerElement → DerElement
   Around a = sequence (tbs_certificate c.tbs_certificate ∷ a ∷ bit_string c.signature_value ∷ [])

@@ -16,7 +16,8 @@ pub record BeginsWithLine (rest : List ℕ) (others : List Line) : Type 0 where
   pub each : AllByRecursion IsLine more
   pub spelled : rest ≡ line_words line ++ newline ∷ flat_map line_text more
 
-pub begins : (rest : List ℕ) (others : List Line) → AllByRecursion IsLine others → rest ≡ flat_map line_text others → (rest ≡ [] → ⊥) → BeginsWithLine rest others
+pub begins : (rest : List ℕ) (others : List Line) → AllByRecursion IsLine others → rest ≡ flat_map line_text others → (rest ≡ [] → ⊥)
+    → BeginsWithLine rest others
 begins rest [] each spelled some = absurd (some spelled)
 begins rest (line ∷ more) each spelled some = record {
   line = line;
@@ -40,7 +41,8 @@ none_read text = record { few = omega arith; each = tt; spelled = refl; left = �
 
 flat_more : (read : List Line) (line : Line) → flat_map line_text (read ++ line ∷ []) ≡ flat_map line_text read ++ line_text line
 flat_more [] line = append-nil (line_text line)
-flat_more (first ∷ read) line = ap (λ (text : List ℕ). line_text first ++ text) (flat_more read line) ∙ sym (append_assoc (line_text first) (flat_map line_text read) (line_text line))
+flat_more (first ∷ read) line = ap (λ (text : List ℕ). line_text first ++ text) (flat_more read line)
+    ∙ sym (append_assoc (line_text first) (flat_map line_text read) (line_text line))
 
 each_more : (read : List Line) (line : Line) → AllByRecursion IsLine read → IsLine line → AllByRecursion IsLine (read ++ line ∷ [])
 each_more [] line each is = (is, tt)
@@ -75,8 +77,13 @@ module _ (text rest : List ℕ) (read : List Line) (so_far : HasRead text rest r
           let left = next lines are in
           let begun = left.2 in
           let same = cut_once (line_words begun.line) (flat_map line_text begun.more) (line_in_line begun.line begun.is) begun.spelled in
-          let one = line_once begun.line begun.is same.0 in
-          (begun.more, left.1 ∙ ap (λ (others : List Line). read ++ others) (begun.are ∙ ap (λ (l : Line). l ∷ begun.more) (sym one)) ∙ sym (append_assoc read (line ∷ []) begun.more), begun.each, same.1);
+          let one = line_once begun.line begun.is same.0 in (
+            begun.more,
+            left.1 ∙ ap (λ (others : List Line). read ++ others) (begun.are ∙ ap (λ (l : Line). l ∷ begun.more) (sym one))
+                ∙ sym (append_assoc read (line ∷ []) begun.more),
+            begun.each,
+            same.1,
+          );
     }
 
 nothing_left : (others : List Line) → [] ≡ flat_map line_text others → others ≡ []

@@ -17,11 +17,13 @@ use Rattle.ca_register.specs.declared.entry.Entry.{Entry}
 use Rattle.ca_register.proofs.Dates.{after_earlier, before_later}
 use Rattle.ca_register.proofs.Records.{IsStepOf, entry_of, step_at}
 
-module _ (judge : Judge) (entries : List Entry) (certificates : List KeptCertificate) (is : IsRegister judge entries certificates) (place : ℕ) (from to date : GeneralizedTime) (usable : IsUsable entries place from to) where
+module _ (judge : Judge) (entries : List Entry) (certificates : List KeptCertificate) (is : IsRegister judge entries certificates) (place : ℕ)
+    (from to date : GeneralizedTime) (usable : IsUsable entries place from to) where
   abbrev Steps : History
   Steps = history_of entries
 
-  during : (between : IsBetween from to date) (at : ℕ) (step : IssuingStep) (index : ℕ) → slice_get (place ∷ usable.ancestors) index ≡ Some at → HasStep Steps at step → IsDuring step date
+  during : (between : IsBetween from to date) (at : ℕ) (step : IssuingStep) (index : ℕ) → slice_get (place ∷ usable.ancestors) index ≡ Some at
+      → HasStep Steps at step → IsDuring step date
   during between at step index found has =
       let of : IsStepOf entries at step = entry_of entries at step has in
       let among : IsAmong entries (place ∷ usable.ancestors) of.entry = record { index = index; place = at; at = found; has = of.has } in
@@ -44,7 +46,8 @@ module _ (judge : Judge) (entries : List Entry) (certificates : List KeptCertifi
             record { authority = authority.authority; depth = authority.depth; valid = during between ancestor step (suc number) found has };
         rooted = λ root has.
             let top = usable.are.1 in
-            subst (λ (s : IssuingStep). IsTrue s.ca) (step_once Steps (last_of place usable.ancestors) top.step root top.is has) (is.rooted (last_of place usable.ancestors) top);
+            subst (λ (s : IssuingStep). IsTrue s.ca) (step_once Steps (last_of place usable.ancestors) top.step root top.is has)
+            (is.rooted (last_of place usable.ancestors) top);
       }
     where
       own_step : (ancestors : List ℕ) → AreAncestors Steps place ancestors → (step : IssuingStep) × HasStep Steps place step
@@ -61,7 +64,8 @@ module _ (judge : Judge) (entries : List Entry) (certificates : List KeptCertifi
 
     lasts_at : (index at : ℕ) (entry : Entry) → slice_get (place ∷ usable.ancestors) index ≡ Some at → HasEntry entries at entry → IsDuring (step_of entry) date
     lasts_at zero at entry found has =
-        let here : HasStep Steps place (step_of entry) = subst (λ (i : ℕ). HasStep Steps i (step_of entry)) (sym (same_some place at found)) (step_at entries at entry has) in
+        let here : HasStep Steps place (step_of entry) =
+        subst (λ (i : ℕ). HasStep Steps i (step_of entry)) (sym (same_some place at found)) (step_at entries at entry has) in
         subst (λ (s : IssuingStep). IsDuring s date) (step_once Steps place valid.step (step_of entry) valid.is here) valid.valid
     lasts_at (suc index) at entry found has = (allowed index at (step_of entry) found (step_at entries at entry has)).valid
 

@@ -23,8 +23,10 @@ module _ (entries : List Entry) (place : ℕ) (date from to : GeneralizedTime) (
       let begins = subst (λ (ps : List ℕ). IsLatestFrom entries (place ∷ ps) from) same usable.begins in
       let ends = subst (λ (ps : List ℕ). IsEarliestTo entries (place ∷ ps) to) same usable.ends in
       record {
-        begun = λ early. between.begun (before_later date begins.latest.grant.from first (subst (IsEarlier date) (sym begins.from) early) (other.begins.none_later begins.latest begins.is));
-        lasts = λ late. between.lasts (after_earlier date ends.earliest.grant.to last (subst (λ (t : GeneralizedTime). IsEarlier t date) (sym ends.to) late) (other.ends.none_earlier ends.earliest ends.is));
+        begun = λ early. between.begun (before_later date begins.latest.grant.from first (subst (IsEarlier date) (sym begins.from) early)
+            (other.begins.none_later begins.latest begins.is));
+        lasts = λ late. between.lasts (after_earlier date ends.earliest.grant.to last (subst (λ (t : GeneralizedTime). IsEarlier t date) (sym ends.to) late)
+            (other.ends.none_earlier ends.earliest ends.is));
       }
 
   pub usable_by : (test : Bool) → (IsTrue test ↔ IsBetween from to date) → IsTrue test ↔ IsUsableAt entries date place
@@ -49,7 +51,8 @@ module _ (entries : List Entry) (place : ℕ) (date from to : GeneralizedTime) (
           are = usable.are;
           parents = _;
           their = above;
-          accepted = accepted judge (history_of entries) certificates date is.issued place usable.ancestors here.0 _ usable.are here.1 above (valid_between judge entries certificates is place from to date usable between);
+          accepted = accepted judge (history_of entries) certificates date is.issued place usable.ancestors here.0 _ usable.are here.1 above
+              (valid_between judge entries certificates is place from to date usable between);
         }
 
     between_at : IsAcceptedAt judge entries certificates date place → IsBetween from to date

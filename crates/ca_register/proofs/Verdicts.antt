@@ -17,12 +17,14 @@ use Rattle.ca_register.proofs.Deciding.{Verdict}
 use Rattle.ca_register.proofs.Kept.{kept_all, kept_ordered}
 use Rattle.ca_register.proofs.Records.{as_many}
 
-pub verdict_of : {T : Type 0} (judge : Judge) (date : GeneralizedTime) (r : Result T CertError) (here checked : KeptCertificate) (above parents : List KeptCertificate) → here ≡ checked → above ≡ parents
+pub verdict_of : {T : Type 0} (judge : Judge) (date : GeneralizedTime) (r : Result T CertError) (here checked : KeptCertificate)
+    (above parents : List KeptCertificate) → here ≡ checked → above ≡ parents
     → Verdict judge date here above r → Verdict judge date checked parents r
 verdict_of judge date r here checked above parents same line verdict =
     subst (λ (k : KeptCertificate). Verdict judge date k parents r) same (subst (λ (ps : List KeptCertificate). Verdict judge date here ps r) line verdict)
 
-module _ (judge : Judge) (entries : List Entry) (certificates : List KeptCertificate) (kept : ∥ IsRegister judge entries certificates ∥₁) (place : ℕ) (within : place < length entries) where
+module _ (judge : Judge) (entries : List Entry) (certificates : List KeptCertificate) (kept : ∥ IsRegister judge entries certificates ∥₁) (place : ℕ)
+    (within : place < length entries) where
   pub place_within : place < length certificates
   place_within = subst (λ (n : ℕ). place < n) (sym (kept_all judge entries certificates kept)) within
 
@@ -31,9 +33,11 @@ module _ (judge : Judge) (entries : List Entry) (certificates : List KeptCertifi
 
   module _ (entry : Entry) (recorded : HasEntry entries place entry) (ancestors : List ℕ) (are : AreAncestors (history_of entries) place ancestors) where
     pub above_at : AreCertsAt certificates ancestors (certificates_above entries certificates (length entries) entry.issuer)
-    above_at = above_are entries certificates (kept_ordered judge entries certificates kept) (kept_all judge entries certificates kept ∙ sym (as_many entries)) place ancestors entry (length entries) are recorded (omega (arith, within))
+    above_at = above_are entries certificates (kept_ordered judge entries certificates kept) (kept_all judge entries certificates kept ∙ sym (as_many entries))
+        place ancestors entry (length entries) are recorded (omega (arith, within))
 
-    pub above_is : (lent : List Entry) (lent_certificates : List KeptCertificate) (most : ℕ) → lent ≡ entries → lent_certificates ≡ certificates → most ≡ length entries → (parents : List KeptCertificate)
+    pub above_is : (lent : List Entry) (lent_certificates : List KeptCertificate) (most : ℕ) → lent ≡ entries → lent_certificates ≡ certificates
+        → most ≡ length entries → (parents : List KeptCertificate)
         → AreCertsAt certificates ancestors parents → certificates_above lent lent_certificates most entry.issuer ≡ parents
     above_is lent lent_certificates most same_entries same_certificates all parents certs =
         ap (λ (l : List Entry). certificates_above l lent_certificates most entry.issuer) same_entries

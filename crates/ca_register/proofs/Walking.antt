@@ -16,15 +16,18 @@ use Rattle.ca_register.proofs.Lines.{nothing_at}
 use Rattle.ca_register.proofs.Records.{as_many, issued_at}
 
 module _ (history : History) where
-  pub next_on_line : (index : ℕ) (ancestors : List ℕ) (number at issuer : ℕ) → AreAncestors history index ancestors → slice_get (index ∷ ancestors) number ≡ Some at → HasIssuer history at issuer
+  pub next_on_line : (index : ℕ) (ancestors : List ℕ) (number at issuer : ℕ) → AreAncestors history index ancestors
+      → slice_get (index ∷ ancestors) number ≡ Some at → HasIssuer history at issuer
       → slice_get (index ∷ ancestors) (suc number) ≡ Some issuer
-  next_on_line index [] zero at issuer are found has = absurd (root_is_not_issued history at issuer (subst (IsRootStep history) (same_some index at found) are.1) has)
+  next_on_line index [] zero at issuer are found has =
+      absurd (root_is_not_issued history at issuer (subst (IsRootStep history) (same_some index at found) are.1) has)
   next_on_line index [] (suc number) at issuer are found has = absurd (nothing_at number at found)
   next_on_line index (first ∷ ancestors) zero at issuer are found has =
       ap Some (issuer_once history at first issuer (subst (λ (i : ℕ). HasIssuer history i first) (same_some index at found) are.0.0) has)
   next_on_line index (first ∷ ancestors) (suc number) at issuer are found has = next_on_line first ancestors number at issuer (are.0.1, are.1) found has
 
-  pub last_on_line : (index : ℕ) (ancestors : List ℕ) (number at other place : ℕ) → AreAncestors history index ancestors → slice_get (index ∷ ancestors) number ≡ Some at → IsRootStep history at
+  pub last_on_line : (index : ℕ) (ancestors : List ℕ) (number at other place : ℕ) → AreAncestors history index ancestors
+      → slice_get (index ∷ ancestors) number ≡ Some at → IsRootStep history at
       → slice_get (index ∷ ancestors) other ≡ Some place → other ≤ number
   last_on_line index [] number at zero place are found root there = omega arith
   last_on_line index [] number at (suc other) place are found root there = absurd (nothing_at other place there)
@@ -47,7 +50,8 @@ module _ (entries : List Entry) (issuer : ℕ) where
 
   module _ (number at above : ℕ) (so_far : IsDeepSoFar number at) (entry : Entry) (has : HasEntry entries at entry) (issued : entry.issuer ≡ Some above) where
     found_above : (ancestors : List ℕ) → AreAncestors (history_of entries) issuer ancestors → slice_get (issuer ∷ ancestors) (suc number) ≡ Some above
-    found_above ancestors are = next_on_line (history_of entries) issuer ancestors number at above are (so_far ancestors are).0 (issued_at entries at above entry has issued)
+    found_above ancestors are =
+        next_on_line (history_of entries) issuer ancestors number at above are (so_far ancestors are).0 (issued_at entries at above entry has issued)
 
     pub deep_more : (IsShortAt above (number + 1) → ⊥) → IsDeepSoFar (number + 1) above
     deep_more enough ancestors are =
@@ -56,8 +60,10 @@ module _ (entries : List Entry) (issuer : ℕ) where
       where
         here : (nearer : ℕ) → nearer ≡ suc number → IsTooShort entries (issuer ∷ ancestors) nearer → ⊥
         here nearer same short =
-            let place : short.place ≡ above = same_some short.place above (sym short.at ∙ ap (slice_get (issuer ∷ ancestors)) same ∙ found_above ancestors are) in
-            enough (short.entry, subst (λ (p : ℕ). HasEntry entries p short.entry) place short.has, (short.limit, short.limited, omega (arith, short.short, same)))
+            let place : short.place ≡ above =
+            same_some short.place above (sym short.at ∙ ap (slice_get (issuer ∷ ancestors)) same ∙ found_above ancestors are) in
+            enough
+            (short.entry, subst (λ (p : ℕ). HasEntry entries p short.entry) place short.has, (short.limit, short.limited, omega (arith, short.short, same)))
 
         none : (nearer : ℕ) → nearer ≤ number + 1 → IsTooShort entries (issuer ∷ ancestors) nearer → ⊥
         none nearer few short = by (cases_lt number nearer)
@@ -96,13 +102,16 @@ module _ (entries : List Entry) (issuer : ℕ) where
 -- ---- the best of the entries so far
 
 -- One of the first entries has this moment, and none of them beats it.
-pub record IsBestSoFar (Beats : GeneralizedTime → GeneralizedTime → Type 0) (moment_of : Entry → GeneralizedTime) (entries : List Entry) (places : List ℕ) (number : ℕ) (moment : GeneralizedTime) : Type 0 where
+pub record IsBestSoFar (Beats : GeneralizedTime → GeneralizedTime → Type 0) (moment_of : Entry → GeneralizedTime) (entries : List Entry) (places : List ℕ)
+    (number : ℕ) (moment : GeneralizedTime) : Type 0 where
   pub best : Entry
   pub among : IsAmong entries places best
   pub is : moment_of best ≡ moment
-  pub none : (index place : ℕ) (entry : Entry) → index ≤ number → slice_get places index ≡ Some place → HasEntry entries place entry → Beats moment (moment_of entry) → ⊥
+  pub none : (index place : ℕ) (entry : Entry) → index ≤ number → slice_get places index ≡ Some place → HasEntry entries place entry
+      → Beats moment (moment_of entry) → ⊥
 
-module _ (Beats : GeneralizedTime → GeneralizedTime → Type 0) (moment_of : Entry → GeneralizedTime) (over : (better moment other : GeneralizedTime) → (Beats better moment → ⊥) → (Beats moment other → ⊥) → Beats better other → ⊥)
+module _ (Beats : GeneralizedTime → GeneralizedTime → Type 0) (moment_of : Entry → GeneralizedTime) (over : (better moment other : GeneralizedTime)
+    → (Beats better moment → ⊥) → (Beats moment other → ⊥) → Beats better other → ⊥)
     (never : (moment : GeneralizedTime) → Beats moment moment → ⊥) (entries : List Entry) where
   abbrev Best : List ℕ → ℕ → GeneralizedTime → Type 0
   Best = IsBestSoFar Beats moment_of entries
@@ -118,17 +127,20 @@ module _ (Beats : GeneralizedTime → GeneralizedTime → Type 0) (moment_of : E
     none = λ index p other few at there. first_alone index p other (omega (arith, few)) at there;
   }
     where
-      first_alone : (index p : ℕ) (other : Entry) → index ≡ 0 → slice_get (place ∷ ancestors) index ≡ Some p → HasEntry entries p other → Beats (moment_of entry) (moment_of other) → ⊥
+      first_alone : (index p : ℕ) (other : Entry) → index ≡ 0 → slice_get (place ∷ ancestors) index ≡ Some p → HasEntry entries p other
+          → Beats (moment_of entry) (moment_of other) → ⊥
       first_alone index p other first at there beats =
           let same : place ≡ p = same_some place p (ap (slice_get (place ∷ ancestors)) (sym first) ∙ at) in
           let one = same_entry place entry other has (subst (λ (i : ℕ). HasEntry entries i other) (sym same) there) in
           never (moment_of entry) (subst (λ (e : Entry). Beats (moment_of entry) (moment_of e)) (sym one) beats)
 
-  pub best_more : (places : List ℕ) (number above : ℕ) (moment better : GeneralizedTime) (entry : Entry) → Best places number moment → slice_get places (suc number) ≡ Some above → HasEntry entries above entry
+  pub best_more : (places : List ℕ) (number above : ℕ) (moment better : GeneralizedTime) (entry : Entry) → Best places number moment
+      → slice_get places (suc number) ≡ Some above → HasEntry entries above entry
       → (better ≡ moment) ⊎ (better ≡ moment_of entry) → (Beats better moment → ⊥) × (Beats better (moment_of entry) → ⊥) → Best places (suc number) better
   best_more places number above moment better entry so_far at has either beaten = by either
     where
-      unbeaten : (index place : ℕ) (other : Entry) → index ≤ suc number → slice_get places index ≡ Some place → HasEntry entries place other → Beats better (moment_of other) → ⊥
+      unbeaten : (index place : ℕ) (other : Entry) → index ≤ suc number → slice_get places index ≡ Some place → HasEntry entries place other
+          → Beats better (moment_of other) → ⊥
       unbeaten index place other few there held = elim (cases_lt number index) [
         | inl last ↦
             let here : suc number ≡ index = omega (arith, last, few) in
@@ -170,10 +182,17 @@ module _ (entries : List Entry) (place : ℕ) where
       × IsBestSoFar Later from_of entries (place ∷ ancestors) number from × IsBestSoFar Sooner to_of entries (place ∷ ancestors) number to
 
   pub usable_itself : (entry : Entry) → HasEntry entries place entry → IsUsableSoFar place entry.grant.from entry.grant.to
-  usable_itself entry has ancestors are = (0, refl, best_first Later from_of later_over not_before_itself entries place ancestors entry has, best_first Sooner to_of sooner_over not_before_itself entries place ancestors entry has)
+  usable_itself entry has ancestors are = (
+    0,
+    refl,
+    best_first Later from_of later_over not_before_itself entries place ancestors entry has,
+    best_first Sooner to_of sooner_over not_before_itself entries place ancestors entry has,
+  )
 
-  module _ (at above : ℕ) (from to : GeneralizedTime) (so_far : IsUsableSoFar at from to) (entry : Entry) (has : HasEntry entries at entry) (issued : entry.issuer ≡ Some above) (over : Entry) (has_over : HasEntry entries above over)
-      (from_now to_now : GeneralizedTime) (from_either : (from_now ≡ from) ⊎ (from_now ≡ over.grant.from)) (latest : (IsEarlier from_now from → ⊥) × (IsEarlier from_now over.grant.from → ⊥))
+  module _ (at above : ℕ) (from to : GeneralizedTime) (so_far : IsUsableSoFar at from to) (entry : Entry) (has : HasEntry entries at entry)
+      (issued : entry.issuer ≡ Some above) (over : Entry) (has_over : HasEntry entries above over)
+      (from_now to_now : GeneralizedTime) (from_either : (from_now ≡ from) ⊎ (from_now ≡ over.grant.from))
+      (latest : (IsEarlier from_now from → ⊥) × (IsEarlier from_now over.grant.from → ⊥))
       (to_either : (to_now ≡ to) ⊎ (to_now ≡ over.grant.to)) (earliest : (IsEarlier to to_now → ⊥) × (IsEarlier over.grant.to to_now → ⊥)) where
     pub usable_more : IsUsableSoFar above from_now to_now
     usable_more ancestors are =
@@ -181,11 +200,13 @@ module _ (entries : List Entry) (place : ℕ) where
         let next = next_on_line (history_of entries) place ancestors now.0 at above are now.1 (issued_at entries at above entry has issued) in (
           suc now.0,
           next,
-          best_more Later from_of later_over not_before_itself entries (place ∷ ancestors) now.0 above from from_now over now.2 next has_over from_either latest,
+          best_more Later from_of later_over not_before_itself entries (place ∷ ancestors)
+              now.0 above from from_now over now.2 next has_over from_either latest,
           best_more Sooner to_of sooner_over not_before_itself entries (place ∷ ancestors) now.0 above to to_now over now.3 next has_over to_either earliest,
         )
 
-  module _ (at : ℕ) (from to : GeneralizedTime) (so_far : IsUsableSoFar at from to) (root : IsRootStep (history_of entries) at) (ordered : IsOrdered (history_of entries)) (within : place < length entries) where
+  module _ (at : ℕ) (from to : GeneralizedTime) (so_far : IsUsableSoFar at from to) (root : IsRootStep (history_of entries) at)
+      (ordered : IsOrdered (history_of entries)) (within : place < length entries) where
     abbrev ancestors : List ℕ
     ancestors = (line_of (history_of entries) place ordered (omega (arith, within, as_many entries))).0
 
@@ -193,7 +214,8 @@ module _ (entries : List Entry) (place : ℕ) where
     are = (line_of (history_of entries) place ordered (omega (arith, within, as_many entries))).1
 
     reached : (among : ℕ) (other : ℕ) → slice_get (place ∷ ancestors) among ≡ Some other → among ≤ (so_far ancestors are).0
-    reached among other there = last_on_line (history_of entries) place ancestors (so_far ancestors are).0 at among other are (so_far ancestors are).1 root there
+    reached among other there =
+        last_on_line (history_of entries) place ancestors (so_far ancestors are).0 at among other are (so_far ancestors are).1 root there
 
     pub usable_whole : IsUsable entries place from to
     usable_whole =

@@ -32,14 +32,16 @@ one_history (step ∷ steps) [] b all all' p q = absurd (omega (arith, all))
 one_history (step ∷ steps) (r ∷ a) [] all all' p q = absurd (omega (arith, all'))
 one_history (step ∷ steps) (r ∷ a) (t ∷ b) all all' p q =
     let first : r ≡ t = one_record step r t (p 0 step r refl refl) (q 0 step t refl refl) in
-    let others : a ≡ b = one_history steps a b (omega (arith, all)) (omega (arith, all')) (λ index s recorded has is. p (suc index) s recorded has is) (λ index s recorded has is. q (suc index) s recorded has is) in
+    let others : a ≡ b = one_history steps a b (omega (arith, all)) (omega (arith, all')) (λ index s recorded has is. p (suc index) s recorded has is)
+    (λ index s recorded has is. q (suc index) s recorded has is) in
     ap₂ (λ (x : IssuingStep) (xs : History). x ∷ xs) first others
 
 -- ---- reports
 
 pub one_report : (count : ℕ) (a b : Demonstration) → IsDemonstration count a → IsDemonstration count b → a ≡ b
 one_report count a b p q =
-    let histories = one_history (demo_history count) p.made.history q.made.history (p.made.of.all ∙ sym (history_length count)) (q.made.of.all ∙ sym (history_length count)) p.made.of.records q.made.of.records in
+    let histories = one_history (demo_history count) p.made.history q.made.history (p.made.of.all ∙ sym (history_length count))
+    (q.made.of.all ∙ sym (history_length count)) p.made.of.records q.made.of.records in
     let dates = same_generalized p.date q.date (p.dated ∙ sym q.dated) in
     let at_date = subst (λ (date : GeneralizedTime). IsCount (λ index. IsValidAt p.made.history index date) count a.accepted) dates p.accepted in
     let valid = subst (λ (history : History). IsCount (λ index. IsValidAt history index q.date) count a.accepted) histories at_date in

@@ -21,7 +21,11 @@ delivered count report out out_now status is (inl (same, written)) =
     let zero : status ≡ 0 = same ∙ is.status in
     record {
       bounded = inl zero;
-      delivered = λ accepted. record { demonstration = is.demonstration; is = is.is; written = subst (λ (text : List ℕ). Appends out.held text out_now.held) is.line written };
+      delivered = λ accepted. record {
+        demonstration = is.demonstration;
+        is = is.is;
+        written = subst (λ (text : List ℕ). Appends out.held text out_now.held) is.line written;
+      };
       sink_failed = λ five. absurd (omega (arith, zero, five));
       has_room = λ demonstration one fits five. omega (arith, zero, five);
       nothing_written = λ seven. absurd (omega (arith, zero, seven));

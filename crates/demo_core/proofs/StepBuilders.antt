@@ -47,7 +47,8 @@ begun_root index step b given key none begun named private =
       given = refl;
       named = subst (λ (o : Option ℕ). IsStepName (signer_of index o) given) (sym none) named;
       public = info_beside key.now private.rsa private.container;
-      keys = subst (λ (o : Option ℕ). AreStepKeys (signer_of index o) key.now (info_beside key.now private.rsa private.container)) (sym none) (keys_beside (step_modulus index) key.now private);
+      keys = subst (λ (o : Option ℕ). AreStepKeys (signer_of index o) key.now (info_beside key.now private.rsa private.container)) (sym none)
+          (keys_beside (step_modulus index) key.now private);
       subject = subst (λ (o : Option ℕ). HasSubject index o set (self_issuer given key)) (sym none) refl;
       serial_number = begun.serial_number;
       algorithm = begun.algorithm;
@@ -59,8 +60,10 @@ begun_root index step b given key none begun named private =
       inherits = begun.inherits;
     }
 
-pub root_set : (index : ℕ) (step : Step) (b set : CertificateBuilder) (given : DirectoryName) (key : Bor PrivateKey) → set ≡ record b { issuer_infos = Some (self_issuer given key) }
-    → step.issuer ≡ None → IsBegun step b → IsStepName index given → IsPrivatePkcs1 (step_secret index) key.now → IsStepBuilder index step set (self_issuer given key)
+pub root_set : (index : ℕ) (step : Step) (b set : CertificateBuilder) (given : DirectoryName) (key : Bor PrivateKey)
+    → set ≡ record b { issuer_infos = Some (self_issuer given key) }
+    → step.issuer ≡ None → IsBegun step b → IsStepName index given → IsPrivatePkcs1 (step_secret index) key.now
+    → IsStepBuilder index step set (self_issuer given key)
 root_set index step b set given key is none begun named private =
     subst (λ (s : CertificateBuilder). IsStepBuilder index step s (self_issuer given key)) (sym is) (begun_root index step b given key none begun named private)
 
@@ -76,7 +79,8 @@ under b given own parent key authority = record b {
   issuer_infos = Some (cert_issuer parent key);
 }
 
-under_set : (index issuer : ℕ) (step : Step) (b : CertificateBuilder) (given : DirectoryName) (own : PublicKey) (parent : KeptCertificate) (key : Bor PrivateKey)
+under_set : (index issuer : ℕ) (step : Step) (b : CertificateBuilder) (given : DirectoryName) (own : PublicKey) (parent : KeptCertificate)
+    (key : Bor PrivateKey)
     (authority : Option (List ℕ)) → step.issuer ≡ Some issuer → IsBegun step b → IsStepName index given → IsStepKey index own
     → IsOfSubject issuer parent → IsPrivatePkcs1 (step_secret issuer) key.now → authority ≡ Some (step_key_id issuer)
     → IsStepBuilder index step (under b given own parent key authority) (cert_issuer parent key)
@@ -90,7 +94,8 @@ under_set index issuer step b given own parent key authority by begun named owne
       given = refl;
       named = subst (λ (o : Option ℕ). IsStepName (signer_of index o) infos.name) (sym by) of.named;
       public = info_beside key.now private.rsa private.container;
-      keys = subst (λ (o : Option ℕ). AreStepKeys (signer_of index o) key.now (info_beside key.now private.rsa private.container)) (sym by) (keys_beside (step_modulus issuer) key.now private);
+      keys = subst (λ (o : Option ℕ). AreStepKeys (signer_of index o) key.now (info_beside key.now private.rsa private.container)) (sym by)
+          (keys_beside (step_modulus issuer) key.now private);
       subject = subst (λ (o : Option ℕ). HasSubject index o (under b given own parent key authority) infos) (sym by)
           (refl, record { authority = is; given = given; own = own; subject = refl; named = named; private = owned.private; keys = owned.keys });
       serial_number = begun.serial_number;
@@ -103,7 +108,8 @@ under_set index issuer step b given own parent key authority by begun named owne
       inherits = begun.inherits;
     }
 
-pub issued_set : (index issuer : ℕ) (step : Step) (b named_b set : CertificateBuilder) (given : DirectoryName) (own : PublicKey) (parent : KeptCertificate) (key : Bor PrivateKey)
+pub issued_set : (index issuer : ℕ) (step : Step) (b named_b set : CertificateBuilder) (given : DirectoryName) (own : PublicKey) (parent : KeptCertificate)
+    (key : Bor PrivateKey)
     → named_b ≡ record b { subject_infos = Some (subjects.Named given own) } → IsIssuedUnder parent key named_b set
     → step.issuer ≡ Some issuer → IsBegun step b → IsStepName index given → IsStepKey index own
     → IsOfSubject issuer parent → IsPrivatePkcs1 (step_secret issuer) key.now → set.authority_key_identifier ≡ Some (step_key_id issuer)
@@ -121,7 +127,8 @@ date_is year None date a b = absurd a
 date_is year (Some other) date a b = ap Some (same_generalized other date (a ∙ sym b))
 
 takes : (index : ℕ) (step : Step) (b : CertificateBuilder) (issuer : IssuerInfos) (certificates : List KeptCertificate) (recorded : IssuingStep)
-    → IsStepBuilder index step b issuer → IsRecordOf step recorded → IsIssuerAt demo_pair b issuer certificates recorded.issuer → TakesStep demo_pair b certificates recorded
+    → IsStepBuilder index step b issuer → IsRecordOf step recorded → IsIssuerAt demo_pair b issuer certificates recorded.issuer
+    → TakesStep demo_pair b certificates recorded
 takes index step b issuer certificates recorded set of by = record {
   ca = of.ca ∙ sym set.ca;
   pathlen = of.path_length ∙ sym set.path_length;
@@ -132,13 +139,15 @@ takes index step b issuer certificates recorded set of by = record {
   by = by;
 }
 
-root_takes : (index : ℕ) (step : Step) (b : CertificateBuilder) (given : DirectoryName) (key : Bor PrivateKey) (certificates : List KeptCertificate) (recorded : IssuingStep)
+root_takes : (index : ℕ) (step : Step) (b : CertificateBuilder) (given : DirectoryName) (key : Bor PrivateKey) (certificates : List KeptCertificate)
+    (recorded : IssuingStep)
     → step.issuer ≡ None → IsStepBuilder index step b (self_issuer given key) → IsRecordOf step recorded → TakesStep demo_pair b certificates recorded
 root_takes index step b given key certificates recorded none set of =
     takes index step b (self_issuer given key) certificates recorded set of
     (subst (IsIssuerAt demo_pair b (self_issuer given key) certificates) (sym (of.issuer ∙ none)) refl)
 
-issued_takes : (index issuer : ℕ) (step : Step) (b : CertificateBuilder) (parent : KeptCertificate) (key : Bor PrivateKey) (certificates : List KeptCertificate) (recorded : IssuingStep)
+issued_takes : (index issuer : ℕ) (step : Step) (b : CertificateBuilder) (parent : KeptCertificate) (key : Bor PrivateKey) (certificates : List KeptCertificate)
+    (recorded : IssuingStep)
     → step.issuer ≡ Some issuer → IsStepBuilder index step b (cert_issuer parent key) → b.authority_key_identifier ≡ Some (step_key_id issuer)
     → IsOfSubject issuer parent → IsPrivatePkcs1 (step_secret issuer) key.now
     → IsRecordOf step recorded → HasCert certificates issuer parent → TakesStep demo_pair b certificates recorded
@@ -154,25 +163,30 @@ issued_takes index issuer step b parent key certificates recorded by set authori
         key = step_key_id issuer;
         had = subject.identified;
         authority = authority;
-        paired = keys_pair (step_modulus issuer) (four_octets issuer) key.now info (keys_for (step_modulus issuer) subject.private key.now info subject.keys private);
+        paired = keys_pair (step_modulus issuer) (four_octets issuer) key.now info
+            (keys_for (step_modulus issuer) subject.private key.now info subject.keys private);
       },
     ))
 
 -- ---- the certificate is the next one
 
 abbrev pub Taken : CertificateBuilder → KeptCertificate → Type 0
-Taken b cert = (certificates : List KeptCertificate) (recorded : IssuingStep) → TakesStep demo_pair b certificates recorded → IsNext demo_verdict certificates recorded cert
+Taken b cert = (certificates : List KeptCertificate) (recorded : IssuingStep) → TakesStep demo_pair b certificates recorded
+    → IsNext demo_verdict certificates recorded cert
 
 pub root_next : (index : ℕ) (step : Step) (b : CertificateBuilder) (given : DirectoryName) (key : Bor PrivateKey) (r : Result KeptCertificate CertError)
     → step.issuer ≡ None → IsStepBuilder index step b (self_issuer given key) → IfOk r (Taken b)
-    → IfOk r (λ cert. (certificates : List KeptCertificate) (recorded : IssuingStep) → IsRecordOf step recorded → IsNext demo_verdict certificates recorded cert)
+    → IfOk r (λ cert. (certificates : List KeptCertificate) (recorded : IssuingStep) → IsRecordOf step recorded
+    → IsNext demo_verdict certificates recorded cert)
 root_next index step b given key r none set =
     IfOk-weaker r _ _ (λ cert next certificates recorded of. next certificates recorded (root_takes index step b given key certificates recorded none set of))
 
-pub issued_next : (index issuer : ℕ) (step : Step) (b : CertificateBuilder) (parent : KeptCertificate) (key : Bor PrivateKey) (r : Result KeptCertificate CertError)
+pub issued_next : (index issuer : ℕ) (step : Step) (b : CertificateBuilder) (parent : KeptCertificate) (key : Bor PrivateKey)
+    (r : Result KeptCertificate CertError)
     → step.issuer ≡ Some issuer → IsStepBuilder index step b (cert_issuer parent key) → b.authority_key_identifier ≡ Some (step_key_id issuer)
     → IsOfSubject issuer parent → IsPrivatePkcs1 (step_secret issuer) key.now → IfOk r (Taken b)
-    → IfOk r (λ cert. (certificates : List KeptCertificate) (recorded : IssuingStep) → HasCert certificates issuer parent → IsRecordOf step recorded → IsNext demo_verdict certificates recorded cert)
+    → IfOk r (λ cert. (certificates : List KeptCertificate) (recorded : IssuingStep) → HasCert certificates issuer parent → IsRecordOf step recorded
+    → IsNext demo_verdict certificates recorded cert)
 issued_next index issuer step b parent key r by set authority subject private =
     IfOk-weaker r _ _ (λ cert next certificates recorded has of. next certificates recorded
     (issued_takes index issuer step b parent key certificates recorded by set authority subject private of has))

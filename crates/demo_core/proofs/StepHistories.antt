@@ -50,7 +50,8 @@ is_record index step at = record { issuer = refl; ca = refl; path_length = refl;
 
 -- ---- one step more
 
-module _ (steps : List Step) (k : ℕ) (certificates : List KeptCertificate) (step : Step) (cert : KeptCertificate) (at : IsStepAt k step) (has : slice_get steps k ≡ Some step)
+module _ (steps : List Step) (k : ℕ) (certificates : List KeptCertificate) (step : Step) (cert : KeptCertificate) (at : IsStepAt k step)
+    (has : slice_get steps k ≡ Some step)
     (so_far : AreStepCerts steps k certificates) (is : IsStepCert k step cert)
     (next : (recorded : IssuingStep) → IsRecordOf step recorded → IsNext demo_verdict certificates recorded cert) where
   abbrev Recorded : IssuingStep

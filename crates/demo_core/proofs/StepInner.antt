@@ -33,7 +33,8 @@ values_are : (index signer : ℕ) (step : Step) (b : CertificateBuilder) (issuer
     → AreWanted (wanted b critical own authority) made → inner_extensions made ≡ step_constraints step ∷ own_identifier index ∷ authority_identifier signer ∷ []
 values_are index signer step b issuer critical own authority made set own_is by made_are =
     let basic : WantedExtension = record { oid = CE_BASIC_CONSTRAINTS.now; critical = critical; value = constraints_of b } in
-    let are = three basic _ _ made (subst (λ (w : List WantedExtension). AreWanted w made) (wanted_is index step b issuer critical own authority set) made_are) in
+    let are =
+    three basic _ _ made (subst (λ (w : List WantedExtension). AreWanted w made) (wanted_is index step b issuer critical own authority set) made_are) in
     let constraints : constraints_of b ≡ views.BasicConstraints (constraints_with (Some step.ca) step.path_length) =
     ap (λ (c : Bool). views.BasicConstraints (constraints_with (Some c) b.pathlen)) set.ca
     ∙ ap (λ (l : Option ℕ). views.BasicConstraints (constraints_with (Some step.ca) l)) set.path_length in
@@ -49,7 +50,8 @@ pub inner_is : (index : ℕ) (step : Step) (b : CertificateBuilder) (issuer : Is
     → IsStepBuilder index step b issuer → IsTbsFor demo_verdict b issuer (index + 1) tbs
     → inner_tbs tbs ≡ step_rsa_key index ∷ step_constraints step ∷ own_identifier index ∷ authority_identifier (signer_of index step.issuer) ∷ []
 inner_is index step b issuer tbs set built_for =
-    let subject = subject_is index step.issuer b issuer tbs.subject tbs.subject_public_key_info set.subject set.named set.keys.private built_for.issued_to.subject in
+    let subject =
+    subject_is index step.issuer b issuer tbs.subject tbs.subject_public_key_info set.subject set.named set.keys.private built_for.issued_to.subject in
     let own : built_for.own ≡ step_key_id index =
     identifier_is (step_modulus index) subject.private tbs.subject_public_key_info built_for.own subject.keys
     (subst (λ (m : KeyIdGenMethod). IsKeyIdentifier m tbs.subject_public_key_info built_for.own) set.method built_for.issued_to.identified) in
@@ -61,7 +63,8 @@ inner_is index step b issuer tbs set built_for =
     let values = values_are index (signer_of index step.issuer) step b issuer built.critical built_for.own _ built.made set own authority built.are_made in
     let half = half_of (step_modulus index) subject.private tbs.subject_public_key_info subject.keys in
     ap (λ (k : SubjectKey). inner_key k ++ inner_option inner_extensions tbs.extensions) half.is
-    ∙ ap (λ (r : DerElement). r ∷ inner_option inner_extensions tbs.extensions) (rsa_is (step_modulus index) subject.private tbs.subject_public_key_info subject.keys)
+    ∙ ap (λ (r : DerElement). r ∷ inner_option inner_extensions tbs.extensions)
+    (rsa_is (step_modulus index) subject.private tbs.subject_public_key_info subject.keys)
     ∙ ap (λ (e : Option (List Extension)). step_rsa_key index ∷ inner_option inner_extensions e) built_for.by.given
     ∙ ap (λ (e : List Extension). step_rsa_key index ∷ inner_extensions e) listed
     ∙ ap (λ (i : List DerElement). step_rsa_key index ∷ i) values

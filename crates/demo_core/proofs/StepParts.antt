@@ -1,5 +1,6 @@
 -- The parts of a step's TBSCertificate are determined by its builder.
-use Rattle.std.proofs.Common.{◌≡◌, inl, inr, Bool, true, false, nat_lt, if◌then◌else◌, ℕ, ◌+◌, ◌*◌, ◌%◌, ◌<◌, ◌≤◌, List, [], ◌∷◌, ◌++◌, Option, Some, refl, sym, ap, subst, ◌∙◌, arith}
+use Rattle.std.proofs.Common.{◌≡◌, inl, inr, Bool, true, false, nat_lt, if◌then◌else◌, ℕ, ◌+◌, ◌*◌, ◌%◌}
+use Rattle.std.proofs.Common.{◌<◌, ◌≤◌, List, [], ◌∷◌, ◌++◌, Option, Some, refl, sym, ap, subst, ◌∙◌, arith}
 use Rattle.std.proofs.lemmas.Bool.{cases_lt, ltb-false, ltb-true}
 use Rattle.der_core.specs.DerElement.{DerElement, Primitive}
 use Rattle.der_core.specs.Head.{number_from}
@@ -105,7 +106,8 @@ serial_is number (first ∷ second ∷ third ∷ octets) small is =
 some_once : (a b : List ℕ) → Some a ≡ Some b → a ≡ b
 some_once a b e = cc
 
-pub algorithm_is : (id : AlgorithmIdentifier) → IsWrittenAlgorithm (RsaPkcs1v15 SHA2_256) id → algorithm_identifier id ≡ with_null SHA256_WITH_RSA_ENCRYPTION.now
+pub algorithm_is : (id : AlgorithmIdentifier) → IsWrittenAlgorithm (RsaPkcs1v15 SHA2_256) id
+    → algorithm_identifier id ≡ with_null SHA256_WITH_RSA_ENCRYPTION.now
 algorithm_is id is =
     ap (λ (c : List ℕ). algorithm_of (object_identifier_of c) (kept_option id.parameters)) (sym (some_once _ _ is.identifier))
     ∙ ap (λ (p : Option DerElement). algorithm_of (object_identifier_of SHA256_WITH_RSA_ENCRYPTION.now) p) is.parameters

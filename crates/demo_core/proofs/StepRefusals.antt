@@ -24,7 +24,8 @@ use Rattle.x509_core.specs.declared.error.CertError.{CertError}
 use Rattle.x509_core.specs.declared.error.CertError.TheVariants as errors
 use Rattle.x509_issuing.specs.BuildRefusals.{no_half, no_key_id, no_octets, no_signature}
 use Rattle.x509_issuing.specs.BuiltCertificate.{IsTbsFor}
-use Rattle.x509_issuing.specs.Building.{algorithm_step, build_steps, given_steps, identifier_step, message_of, octets_step, signature_step, steps_by, subject_steps, tbs_written, whole_step}
+use Rattle.x509_issuing.specs.Building.{algorithm_step, build_steps, given_steps, identifier_step, message_of}
+use Rattle.x509_issuing.specs.Building.{octets_step, signature_step, steps_by, subject_steps, tbs_written, whole_step}
 use Rattle.x509_issuing.specs.KeptRequest.{KeptRequest}
 use Rattle.names_core.specs.declared.name.DirectoryName.{DirectoryName}
 use Rattle.key_core.specs.declared.public_key.PublicKey.{PublicKey}
@@ -63,7 +64,8 @@ is_given o x e none = absurd cc
 year_given : (year : ℕ) (o : Option GeneralizedTime) → IsYearGiven year o → o ≡ None → ⊥
 year_given year o is none = subst (IsYearGiven year) none is
 
-not_both : (given : DirectoryName) (own : PublicKey) (csr : KeptRequest) (o : Option SubjectInfos) → o ≡ Some (subjects.Named given own) → o ≡ Some (subjects.Request csr) → ⊥
+not_both : (given : DirectoryName) (own : PublicKey) (csr : KeptRequest) (o : Option SubjectInfos) → o ≡ Some (subjects.Named given own)
+    → o ≡ Some (subjects.Request csr) → ⊥
 not_both given own csr o named requested = absurd cc
 
 some_none : {x : List ℕ} → Some x ≡ None → ⊥
@@ -89,7 +91,8 @@ subjects_sure index (Some one) signer b issuer later (other, to) key are =
       ),
     )
 
-pub built_or_memory : (index : ℕ) (step : Step) (b : CertificateBuilder) (issuer : IssuerInfos) (e : CertError) → index < 255 → signer_of index step.issuer < 255
+pub built_or_memory : (index : ℕ) (step : Step) (b : CertificateBuilder) (issuer : IssuerInfos) (e : CertError) → index < 255
+    → signer_of index step.issuer < 255
     → IsUtcYear step.years.first → IsUtcYear step.years.last → IsStepBuilder index step b issuer
     → RefusesBySteps errors.Memory (build_steps (arithmetic demo_verdict signs_by_demo demo_pair) b (index + 1)) e → e ≡ errors.Memory
 built_or_memory index step b issuer e small small_signer first last set refuses =
@@ -98,16 +101,25 @@ built_or_memory index step b issuer e small small_signer first last set refuses 
     let identifier : (x : CertError) → (identifier_step demo_verdict b issuer).refused x → x ≡ errors.Memory =
     λ x (named, info, subject, (source, is, refused)).
     let of = subject_is index step.issuer b issuer named info set.subject set.named private subject in
-    is ∙ ap no_key_id (identifier_or_memory (step_modulus index) (four_octets index) of.private info source of.keys (subst (λ (m : KeyIdGenMethod). RefusesKeyIdentifier m info source) set.method refused)) in
+    is ∙ ap no_key_id (identifier_or_memory (step_modulus index) (four_octets index) of.private info source of.keys
+    (subst (λ (m : KeyIdGenMethod). RefusesKeyIdentifier m info source) set.method refused)) in
     let algorithm : (x : CertError) → (algorithm_step b).refused x → x ≡ errors.Memory =
-    λ x (source, is, refused). is ∙ ap signature_refusal (algorithm_or_memory source (subst (λ (a : SignatureAlgorithm). IsUnwritable a source) set.algorithm refused)) in
-    let octets : (x : CertError) → (octets_step (arithmetic demo_verdict signs_by_demo demo_pair) b.signature_hash_type issuer.key.now (IsTbsFor demo_verdict b issuer (index + 1))).refused x → x ≡ errors.Memory =
-    λ x (tbs, of, (source, is, refused)). is ∙ ap no_octets (only_memory (tbs_written tbs) source (tbs_small index step b issuer tbs small small_signer first last set of) refused) in
-    let signature : (x : CertError) → (signature_step (arithmetic demo_verdict signs_by_demo demo_pair) b.signature_hash_type issuer.key.now (IsTbsFor demo_verdict b issuer (index + 1))).refused x → x ≡ errors.Memory =
-    λ x (tbs, of, (source, is, refused)). is ∙ ap no_signature (signature_or_memory (step_modulus signer) (four_octets signer) issuer.key.now (message_of tbs) source private
+    λ x (source, is, refused). is
+    ∙ ap signature_refusal (algorithm_or_memory source (subst (λ (a : SignatureAlgorithm). IsUnwritable a source) set.algorithm refused)) in
+    let octets : (x : CertError) → (octets_step (arithmetic demo_verdict signs_by_demo demo_pair) b.signature_hash_type issuer.key.now
+    (IsTbsFor demo_verdict b issuer (index + 1))).refused x → x ≡ errors.Memory =
+    λ x (tbs, of, (source, is, refused)). is
+    ∙ ap no_octets (only_memory (tbs_written tbs) source (tbs_small index step b issuer tbs small small_signer first last set of) refused) in
+    let signature : (x : CertError) → (signature_step (arithmetic demo_verdict signs_by_demo demo_pair) b.signature_hash_type issuer.key.now
+    (IsTbsFor demo_verdict b issuer (index + 1))).refused x → x ≡ errors.Memory =
+    λ x (tbs, of, (source, is, refused)). is
+    ∙ ap no_signature (signature_or_memory (step_modulus signer) (four_octets signer) issuer.key.now (message_of tbs) source private
     (subst (λ (a : SignatureAlgorithm). RefusesSignatureBy (sign_rules signs_by_demo a issuer.key.now (message_of tbs)) source) set.algorithm refused)) in
-    let whole : (x : CertError) → (whole_step (arithmetic demo_verdict signs_by_demo demo_pair) b.signature_hash_type issuer.key.now (IsTbsFor demo_verdict b issuer (index + 1))).refused x → x ≡ errors.Memory =
-    λ x (c, of, (source, is, refused)). is ∙ ap (unwritten elements.Certificate) (only_memory (written_elements c) source (certificate_small index step b issuer c small small_signer first last set of) refused) in
+    let whole : (x : CertError)
+    → (whole_step (arithmetic demo_verdict signs_by_demo demo_pair) b.signature_hash_type issuer.key.now (IsTbsFor demo_verdict b issuer (index + 1))).refused x
+    → x ≡ errors.Memory =
+    λ x (c, of, (source, is, refused)). is ∙ ap (unwritten elements.Certificate)
+    (only_memory (written_elements c) source (certificate_small index step b issuer c small small_signer first last set of) refused) in
     let later : AreSure (steps_by (arithmetic demo_verdict signs_by_demo demo_pair) b (index + 1) (Some issuer)) =
     subjects_sure index step.issuer signer b issuer _ set.subject private
     (identifier, (algorithm, (octets, (signature, (whole, tt))))) in

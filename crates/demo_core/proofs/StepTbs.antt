@@ -1,5 +1,6 @@
 -- The TBSCertificate that is built for a step is the step's.
-use Rattle.std.proofs.Common.{◌≡◌, Bool, true, false, IsTrue, ap₂, ◌==◌, if◌then◌else◌, ℕ, ◌+◌, ◌<◌, List, [], ◌∷◌, ◌++◌, Option, Some, None, refl, sym, ap, subst, ◌∙◌, arith}
+use Rattle.std.proofs.Common.{◌≡◌, Bool, true, false, IsTrue, ap₂, ◌==◌, if◌then◌else◌, ℕ, ◌+◌, ◌<◌}
+use Rattle.std.proofs.Common.{List, [], ◌∷◌, ◌++◌, Option, Some, None, refl, sym, ap, subst, ◌∙◌, arith}
 use Rattle.std.proofs.lemmas.Bool.{eqb-true}
 use Rattle.std.specs.Option.{option_map}
 use Rattle.der_core.specs.DerElement.{DerElement}
@@ -11,7 +12,8 @@ use Rattle.asn1_types.specs.Elements.{integer_of, object_identifier_of}
 use Rattle.asn1_types.specs.Integer.{IsUnsignedInteger}
 use Rattle.asn1_types.specs.Values.{integer_contents}
 use Rattle.asn1_types.specs.declared.generalized_time.GeneralizedTime.{GeneralizedTime}
-use Rattle.asn1_types.specs.declared.oids.TheConstants.{CE_AUTHORITY_KEY_IDENTIFIER, CE_BASIC_CONSTRAINTS, CE_SUBJECT_KEY_IDENTIFIER, CE_KEY_USAGE, CE_EXT_KEY_USAGE, CE_SUBJECT_ALT_NAME, CE_ISSUER_ALT_NAME, SHA256_WITH_RSA_ENCRYPTION}
+use Rattle.asn1_types.specs.declared.oids.TheConstants.{CE_AUTHORITY_KEY_IDENTIFIER, CE_BASIC_CONSTRAINTS, CE_SUBJECT_KEY_IDENTIFIER, CE_KEY_USAGE}
+use Rattle.asn1_types.specs.declared.oids.TheConstants.{CE_EXT_KEY_USAGE, CE_SUBJECT_ALT_NAME, CE_ISSUER_ALT_NAME, SHA256_WITH_RSA_ENCRYPTION}
 use Rattle.extension_types.specs.AuthorityKeyIdentifier.{key_of_identifier}
 use Rattle.extension_types.specs.BasicConstraints.{constraints_with}
 use Rattle.key_types.specs.AlgorithmIdentifier.{algorithm_identifier}
@@ -38,14 +40,16 @@ use Rattle.x509_types.specs.declared.extension.Extension.{Extension}
 use Rattle.x509_types.specs.declared.extension.view.ExtensionView.{ExtensionView}
 use Rattle.x509_types.specs.declared.extension.view.ExtensionView.TheVariants as views
 use Rattle.x509_issuing.specs.BuiltCertificate.{IsGivenSubject, IsSubjectBy, IsTbsFor, authority_of, serial_of}
-use Rattle.x509_issuing.specs.MadeExtensions.{AreWanted, IsForSignatures, IsWantedExtension, WantedExtension, constraints_of, inherited, wanted, wanted_keys, where_given}
+use Rattle.x509_issuing.specs.MadeExtensions.{AreWanted, IsForSignatures, IsWantedExtension, WantedExtension}
+use Rattle.x509_issuing.specs.MadeExtensions.{constraints_of, inherited, wanted, wanted_keys, where_given}
 use Rattle.x509_issuing.specs.Inherited.{with_others}
 use Rattle.x509_issuing.specs.declared.builder.CertificateBuilder.{CertificateBuilder}
 use Rattle.x509_issuing.specs.declared.builder.IssuerInfos.{IssuerInfos}
 use Rattle.x509_issuing.specs.declared.builder.SubjectInfos.{SubjectInfos}
 use Rattle.demo_core.specs.Builders.{HasSubject, IsStepBuilder, IsYearGiven}
 use Rattle.key_core.specs.SmallKeys.{with_null}
-use Rattle.demo_core.specs.Certificates.{authority_identifier, extension_of, own_identifier, signer_of, small_contents, step_constraints, step_extensions, step_key, step_key_id, step_name, step_tbs, year_time}
+use Rattle.demo_core.specs.Certificates.{authority_identifier, extension_of, own_identifier, signer_of, small_contents}
+use Rattle.demo_core.specs.Certificates.{step_constraints, step_extensions, step_key, step_key_id, step_name, step_tbs, year_time}
 use Rattle.demo_core.specs.Secrets.{AreStepKeys, step_modulus, step_secret}
 use Rattle.demo_core.specs.declared.history.Step.{Step}
 use Rattle.key_core.proofs.SmallKeys.{identifier_is, info_is}
@@ -92,14 +96,16 @@ pub not_critical : (critical : Bool) → (IsTrue critical → ⊥) → critical 
 not_critical true never = absurd (never refl)
 not_critical false never = refl
 
-extension_is : (oid : List ℕ) (critical : Bool) (view : ExtensionView) (e : Extension) → IsWantedExtension (record { oid = oid; critical = critical; value = view }) e
+extension_is : (oid : List ℕ) (critical : Bool) (view : ExtensionView) (e : Extension)
+    → IsWantedExtension (record { oid = oid; critical = critical; value = view }) e
     → critical ≡ false → extension e ≡ sequence (object_identifier_of oid ∷ octet_string (value_octets view) ∷ [])
 extension_is oid critical view e is plain =
     ap (λ (o : List ℕ). sequence (object_identifier_of o ∷ (default_false e.critical ++ octet_string (value_octets e.extn_value) ∷ []))) is.named
     ∙ ap (λ (c : Bool). sequence (object_identifier_of oid ∷ (default_false c ++ octet_string (value_octets e.extn_value) ∷ []))) (is.flagged ∙ plain)
     ∙ ap (λ (v : ExtensionView). sequence (object_identifier_of oid ∷ octet_string (value_octets v) ∷ [])) is.valued
 
-pub wanted_is : (index : ℕ) (step : Step) (b : CertificateBuilder) (issuer : IssuerInfos) (critical : Bool) (own authority : List ℕ) → IsStepBuilder index step b issuer
+pub wanted_is : (index : ℕ) (step : Step) (b : CertificateBuilder) (issuer : IssuerInfos) (critical : Bool) (own authority : List ℕ)
+    → IsStepBuilder index step b issuer
     → wanted b critical own authority ≡ record { oid = CE_BASIC_CONSTRAINTS.now; critical = critical; value = constraints_of b } ∷ wanted_keys own authority
 wanted_is index step b issuer critical own authority set =
     let basic : WantedExtension = record { oid = CE_BASIC_CONSTRAINTS.now; critical = critical; value = constraints_of b } in
@@ -135,29 +141,35 @@ constraints_is step b ca pathlen =
     ap (λ (c : Bool). value_octets (views.BasicConstraints (constraints_with (Some c) b.pathlen))) ca
     ∙ ap (λ (l : Option ℕ). value_octets (views.BasicConstraints (constraints_with (Some step.ca) l))) pathlen
 
-extensions_are : (index signer : ℕ) (step : Step) (b : CertificateBuilder) (issuer : IssuerInfos) (critical : Bool) (own authority : List ℕ) (made : List Extension)
+extensions_are : (index signer : ℕ) (step : Step) (b : CertificateBuilder) (issuer : IssuerInfos) (critical : Bool) (own authority : List ℕ)
+    (made : List Extension)
     → IsStepBuilder index step b issuer → critical ≡ false → own ≡ step_key_id index → authority ≡ step_key_id signer
     → AreWanted (wanted b critical own authority) made → extensions made ≡ step_extensions index signer step
 extensions_are index signer step b issuer critical own authority made set plain own_is by made_are =
     let basic : WantedExtension = record { oid = CE_BASIC_CONSTRAINTS.now; critical = critical; value = constraints_of b } in
-    let are = three basic _ _ made (subst (λ (w : List WantedExtension). AreWanted w made) (wanted_is index step b issuer critical own authority set) made_are) in
+    let are =
+    three basic _ _ made (subst (λ (w : List WantedExtension). AreWanted w made) (wanted_is index step b issuer critical own authority set) made_are) in
     let one : extension are.first ≡ extension_of CE_BASIC_CONSTRAINTS.now (step_constraints step) =
     extension_is CE_BASIC_CONSTRAINTS.now critical (constraints_of b) are.first are.is_first plain
     ∙ ap (λ (o : List ℕ). sequence (object_identifier_of CE_BASIC_CONSTRAINTS.now ∷ octet_string o ∷ [])) (constraints_is step b set.ca set.path_length) in
     let two : extension are.second ≡ extension_of CE_SUBJECT_KEY_IDENTIFIER.now (own_identifier index) =
     extension_is CE_SUBJECT_KEY_IDENTIFIER.now false (views.SubjectKeyIdentifier own) are.second are.is_second refl
-    ∙ ap (λ (k : List ℕ). sequence (object_identifier_of CE_SUBJECT_KEY_IDENTIFIER.now ∷ octet_string (value_octets (views.SubjectKeyIdentifier k)) ∷ [])) own_is in
+    ∙ ap (λ (k : List ℕ). sequence (object_identifier_of CE_SUBJECT_KEY_IDENTIFIER.now ∷ octet_string (value_octets (views.SubjectKeyIdentifier k)) ∷ []))
+    own_is in
     let more : extension are.third ≡ extension_of CE_AUTHORITY_KEY_IDENTIFIER.now (authority_identifier signer) =
     extension_is CE_AUTHORITY_KEY_IDENTIFIER.now false (views.AuthorityKeyIdentifier (key_of_identifier authority)) are.third are.is_third refl
-    ∙ ap (λ (k : List ℕ). sequence (object_identifier_of CE_AUTHORITY_KEY_IDENTIFIER.now ∷ octet_string (value_octets (views.AuthorityKeyIdentifier (key_of_identifier k))) ∷ [])) by in
+    ∙ ap (λ (k : List ℕ). sequence (object_identifier_of CE_AUTHORITY_KEY_IDENTIFIER.now
+    ∷ octet_string (value_octets (views.AuthorityKeyIdentifier (key_of_identifier k))) ∷ [])) by in
     ap extensions are.are
     ∙ ap (λ (x : DerElement). sequence (x ∷ extension are.second ∷ extension are.third ∷ [])) one
     ∙ ap (λ (x : DerElement). sequence (extension_of CE_BASIC_CONSTRAINTS.now (step_constraints step) ∷ x ∷ extension are.third ∷ [])) two
-    ∙ ap (λ (x : DerElement). sequence (extension_of CE_BASIC_CONSTRAINTS.now (step_constraints step) ∷ extension_of CE_SUBJECT_KEY_IDENTIFIER.now (own_identifier index) ∷ x ∷ [])) more
+    ∙ ap (λ (x : DerElement).
+    sequence (extension_of CE_BASIC_CONSTRAINTS.now (step_constraints step) ∷ extension_of CE_SUBJECT_KEY_IDENTIFIER.now (own_identifier index) ∷ x ∷ [])) more
 
 -- ---- the whole
 
-abbrev tbs_by : Option DerElement → List ℕ → DerElement → DerElement → DerElement → DerElement → DerElement → Option (List ℕ) → Option (List ℕ) → Option DerElement → DerElement
+abbrev tbs_by : Option DerElement → List ℕ → DerElement → DerElement → DerElement → DerElement → DerElement → Option (List ℕ) → Option (List ℕ)
+    → Option DerElement → DerElement
 tbs_by v n a i d s k iu su e =
     tbs_of (record {
       version = v;
@@ -184,7 +196,8 @@ pub tbs_is : (index : ℕ) (step : Step) (b : CertificateBuilder) (issuer : Issu
     → tbs_certificate tbs ≡ step_tbs index (signer_of index step.issuer) step
 tbs_is index step b issuer tbs small first_year last_year set built_for =
     let signer = signer_of index step.issuer in
-    let subject = subject_is index step.issuer b issuer tbs.subject tbs.subject_public_key_info set.subject set.named set.keys.private built_for.issued_to.subject in
+    let subject =
+    subject_is index step.issuer b issuer tbs.subject tbs.subject_public_key_info set.subject set.named set.keys.private built_for.issued_to.subject in
     let own : built_for.own ≡ step_key_id index =
     identifier_is (step_modulus index) subject.private tbs.subject_public_key_info built_for.own subject.keys
     (subst (λ (m : KeyIdGenMethod). IsKeyIdentifier m tbs.subject_public_key_info built_for.own) set.method built_for.issued_to.identified) in
@@ -204,18 +217,35 @@ tbs_is index step b issuer tbs small first_year last_year set built_for =
     let algorithm : algorithm_identifier tbs.signature ≡ with_null SHA256_WITH_RSA_ENCRYPTION.now =
     algorithm_is tbs.signature (subst (λ (a : SignatureAlgorithm). IsWrittenAlgorithm a tbs.signature) set.algorithm built_for.by.issued_by.signs) in
     let issued : name tbs.issuer ≡ step_name signer = ap name built_for.by.issued_by.named ∙ set.named in
-    let begins = time_is step.years.first built_for.from tbs.validity.not_before first_year (year_is step.years.first b.valid_from built_for.from set.begins built_for.valid_from) built_for.validity.begins in
-    let ends = time_is step.years.last built_for.to tbs.validity.not_after last_year (year_is step.years.last b.valid_to built_for.to set.ends built_for.valid_to) built_for.validity.ends in
+    let begins = time_is step.years.first built_for.from tbs.validity.not_before first_year
+    (year_is step.years.first b.valid_from built_for.from set.begins built_for.valid_from) built_for.validity.begins in
+    let ends = time_is step.years.last built_for.to tbs.validity.not_after last_year
+    (year_is step.years.last b.valid_to built_for.to set.ends built_for.valid_to) built_for.validity.ends in
     let valid : validity tbs.validity ≡ sequence (year_time step.years.first ∷ year_time step.years.last ∷ []) =
     ap₂ (λ (x y : DerElement). sequence (x ∷ y ∷ [])) begins ends in
     let keyed = info_is (step_modulus index) subject.private tbs.subject_public_key_info subject.keys in
-    ap (λ v. tbs_by v (integer_contents tbs.serial_number) (algorithm_identifier tbs.signature) (name tbs.issuer) (validity tbs.validity) (name tbs.subject) (public_key_info tbs.subject_public_key_info) tbs.issuer_unique_id tbs.subject_unique_id (option_map extensions tbs.extensions)) (ap (option_map version) built_for.by.version)
-    ∙ ap (λ n. tbs_by (Some (integer_of (2 ∷ []))) n (algorithm_identifier tbs.signature) (name tbs.issuer) (validity tbs.validity) (name tbs.subject) (public_key_info tbs.subject_public_key_info) tbs.issuer_unique_id tbs.subject_unique_id (option_map extensions tbs.extensions)) serial
-    ∙ ap (λ a. tbs_by (Some (integer_of (2 ∷ []))) (small_contents (index + 1)) a (name tbs.issuer) (validity tbs.validity) (name tbs.subject) (public_key_info tbs.subject_public_key_info) tbs.issuer_unique_id tbs.subject_unique_id (option_map extensions tbs.extensions)) algorithm
-    ∙ ap (λ i. tbs_by (Some (integer_of (2 ∷ []))) (small_contents (index + 1)) (with_null SHA256_WITH_RSA_ENCRYPTION.now) i (validity tbs.validity) (name tbs.subject) (public_key_info tbs.subject_public_key_info) tbs.issuer_unique_id tbs.subject_unique_id (option_map extensions tbs.extensions)) issued
-    ∙ ap (λ d. tbs_by (Some (integer_of (2 ∷ []))) (small_contents (index + 1)) (with_null SHA256_WITH_RSA_ENCRYPTION.now) (step_name signer) d (name tbs.subject) (public_key_info tbs.subject_public_key_info) tbs.issuer_unique_id tbs.subject_unique_id (option_map extensions tbs.extensions)) valid
-    ∙ ap (λ s. tbs_by (Some (integer_of (2 ∷ []))) (small_contents (index + 1)) (with_null SHA256_WITH_RSA_ENCRYPTION.now) (step_name signer) (sequence (year_time step.years.first ∷ year_time step.years.last ∷ [])) s (public_key_info tbs.subject_public_key_info) tbs.issuer_unique_id tbs.subject_unique_id (option_map extensions tbs.extensions)) subject.named
-    ∙ ap (λ k. tbs_by (Some (integer_of (2 ∷ []))) (small_contents (index + 1)) (with_null SHA256_WITH_RSA_ENCRYPTION.now) (step_name signer) (sequence (year_time step.years.first ∷ year_time step.years.last ∷ [])) (step_name index) k tbs.issuer_unique_id tbs.subject_unique_id (option_map extensions tbs.extensions)) keyed
-    ∙ ap (λ u. tbs_by (Some (integer_of (2 ∷ []))) (small_contents (index + 1)) (with_null SHA256_WITH_RSA_ENCRYPTION.now) (step_name signer) (sequence (year_time step.years.first ∷ year_time step.years.last ∷ [])) (step_name index) (step_key index) u tbs.subject_unique_id (option_map extensions tbs.extensions)) built_for.by.issuer_unique_id
-    ∙ ap (λ u. tbs_by (Some (integer_of (2 ∷ []))) (small_contents (index + 1)) (with_null SHA256_WITH_RSA_ENCRYPTION.now) (step_name signer) (sequence (year_time step.years.first ∷ year_time step.years.last ∷ [])) (step_name index) (step_key index) None u (option_map extensions tbs.extensions)) built_for.by.subject_unique_id
-    ∙ ap (λ e. tbs_by (Some (integer_of (2 ∷ []))) (small_contents (index + 1)) (with_null SHA256_WITH_RSA_ENCRYPTION.now) (step_name signer) (sequence (year_time step.years.first ∷ year_time step.years.last ∷ [])) (step_name index) (step_key index) None None e) extended
+    ap (λ v. tbs_by v (integer_contents tbs.serial_number) (algorithm_identifier tbs.signature) (name tbs.issuer) (validity tbs.validity)
+    (name tbs.subject) (public_key_info tbs.subject_public_key_info) tbs.issuer_unique_id tbs.subject_unique_id (option_map extensions tbs.extensions))
+    (ap (option_map version) built_for.by.version)
+    ∙ ap (λ n. tbs_by (Some (integer_of (2 ∷ []))) n (algorithm_identifier tbs.signature) (name tbs.issuer) (validity tbs.validity) (name tbs.subject)
+    (public_key_info tbs.subject_public_key_info) tbs.issuer_unique_id tbs.subject_unique_id (option_map extensions tbs.extensions)) serial
+    ∙ ap (λ a. tbs_by (Some (integer_of (2 ∷ []))) (small_contents (index + 1)) a (name tbs.issuer) (validity tbs.validity) (name tbs.subject)
+    (public_key_info tbs.subject_public_key_info) tbs.issuer_unique_id tbs.subject_unique_id (option_map extensions tbs.extensions)) algorithm
+    ∙ ap (λ i. tbs_by (Some (integer_of (2 ∷ []))) (small_contents (index + 1)) (with_null SHA256_WITH_RSA_ENCRYPTION.now) i (validity tbs.validity)
+    (name tbs.subject) (public_key_info tbs.subject_public_key_info) tbs.issuer_unique_id tbs.subject_unique_id (option_map extensions tbs.extensions)) issued
+    ∙ ap (λ d. tbs_by (Some (integer_of (2 ∷ []))) (small_contents (index + 1)) (with_null SHA256_WITH_RSA_ENCRYPTION.now) (step_name signer) d
+    (name tbs.subject) (public_key_info tbs.subject_public_key_info) tbs.issuer_unique_id tbs.subject_unique_id (option_map extensions tbs.extensions)) valid
+    ∙ ap (λ s. tbs_by (Some (integer_of (2 ∷ []))) (small_contents (index + 1)) (with_null SHA256_WITH_RSA_ENCRYPTION.now) (step_name signer)
+    (sequence (year_time step.years.first ∷ year_time step.years.last ∷ [])) s (public_key_info tbs.subject_public_key_info)
+    tbs.issuer_unique_id tbs.subject_unique_id (option_map extensions tbs.extensions)) subject.named
+    ∙ ap (λ k. tbs_by (Some (integer_of (2 ∷ []))) (small_contents (index + 1)) (with_null SHA256_WITH_RSA_ENCRYPTION.now) (step_name signer)
+    (sequence (year_time step.years.first ∷ year_time step.years.last ∷ [])) (step_name index) k tbs.issuer_unique_id tbs.subject_unique_id
+    (option_map extensions tbs.extensions)) keyed
+    ∙ ap (λ u. tbs_by (Some (integer_of (2 ∷ []))) (small_contents (index + 1)) (with_null SHA256_WITH_RSA_ENCRYPTION.now) (step_name signer)
+    (sequence (year_time step.years.first ∷ year_time step.years.last ∷ [])) (step_name index) (step_key index) u tbs.subject_unique_id
+    (option_map extensions tbs.extensions)) built_for.by.issuer_unique_id
+    ∙ ap (λ u. tbs_by (Some (integer_of (2 ∷ []))) (small_contents (index + 1)) (with_null SHA256_WITH_RSA_ENCRYPTION.now) (step_name signer)
+    (sequence (year_time step.years.first ∷ year_time step.years.last ∷ [])) (step_name index) (step_key index) None u (option_map extensions tbs.extensions))
+    built_for.by.subject_unique_id
+    ∙ ap (λ e. tbs_by (Some (integer_of (2 ∷ []))) (small_contents (index + 1)) (with_null SHA256_WITH_RSA_ENCRYPTION.now) (step_name signer)
+    (sequence (year_time step.years.first ∷ year_time step.years.last ∷ [])) (step_name index) (step_key index) None None e) extended

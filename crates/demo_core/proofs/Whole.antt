@@ -52,7 +52,8 @@ abbrev pub octets_before : List KeptCertificate → ℕ → List ℕ
 octets_before certificates k = flat_map kept_octets (take k certificates)
 
 pub octets_more : (certificates : List KeptCertificate) (k : ℕ) (octets : List ℕ) → k < length certificates
-    → ((cert : KeptCertificate) → HasCert certificates k cert → octets ≡ kept_octets cert) → octets_before certificates (k + 1) ≡ octets_before certificates k ++ octets
+    → ((cert : KeptCertificate) → HasCert certificates k cert → octets ≡ kept_octets cert)
+    → octets_before certificates (k + 1) ≡ octets_before certificates k ++ octets
 octets_more certificates k octets within are =
     let cert = item_at certificates k within in
     ap (flat_map kept_octets) (take_more certificates k cert.0 within)
@@ -60,7 +61,8 @@ octets_more certificates k octets within are =
     ∙ ap (λ (x : KeptCertificate). octets_before certificates k ++ kept_octets x) (get_or_from_slice_get certificates k cert.0 cert.0 cert.1)
     ∙ ap (λ (o : List ℕ). octets_before certificates k ++ o) (sym (are cert.0 cert.1))
 
-octets_are : (certificates : List KeptCertificate) (f : ℕ → List ℕ) (from : ℕ) → ((index : ℕ) (cert : KeptCertificate) → HasCert certificates index cert → kept_octets cert ≡ f (from + index))
+octets_are : (certificates : List KeptCertificate) (f : ℕ → List ℕ) (from : ℕ)
+    → ((index : ℕ) (cert : KeptCertificate) → HasCert certificates index cert → kept_octets cert ≡ f (from + index))
     → flat_map kept_octets certificates ≡ flat_map f (range_with_len from (length certificates))
 octets_are [] f from each = refl
 octets_are (cert ∷ certificates) f from each =
@@ -77,7 +79,8 @@ step_octets count certificates made index cert has =
     let within = slice_get_within certificates index cert has in
     ap encoding (made.each index (demo_step count index) cert (has_step count index (omega (arith, within, made.of.all, made.of.issued.all))) has).is
 
-sum_is : (count : ℕ) (certificates : List KeptCertificate) → AreStepCerts (demo_history count) count certificates → flat_map kept_octets certificates ≡ demo_octets count
+sum_is : (count : ℕ) (certificates : List KeptCertificate) → AreStepCerts (demo_history count) count certificates
+    → flat_map kept_octets certificates ≡ demo_octets count
 sum_is count certificates made =
     let f : ℕ → List ℕ = λ index. encoding (step_certificate index (demo_step count index)) in
     let all : length certificates ≡ count = made.of.issued.all ∙ made.of.all in
@@ -102,7 +105,8 @@ is_demonstration count certificates date d steps made dated roots accepted sum =
   sum = sum ∙ ap sha256 (sum_is count certificates made);
 }
 
-pub demonstrated : (count : ℕ) (given : List Step) (certificates : List KeptCertificate) (date : GeneralizedTime) (d : Demonstration) → given ≡ demo_history count
+pub demonstrated : (count : ℕ) (given : List Step) (certificates : List KeptCertificate) (date : GeneralizedTime) (d : Demonstration)
+    → given ≡ demo_history count
     → d.steps ≡ count → AreStepCerts given (length given) certificates → IsYearGiven 2025 (Some date)
     → IsCount (IsRootAt given) (length given) d.roots → IsValidCount given certificates date (length given) d.accepted
     → d.sum ≡ sha256 (flat_map kept_octets certificates) → IsDemonstration count d
@@ -112,5 +116,6 @@ demonstrated count given certificates date d is steps made dated roots accepted 
     (subst (λ (n : ℕ). AreStepCerts (demo_history count) n certificates) all (subst (λ (s : List Step). AreStepCerts s (length s) certificates) is made))
     dated
     (subst (λ (n : ℕ). IsCount (IsRootAt (demo_history count)) n d.roots) all (subst (λ (s : List Step). IsCount (IsRootAt s) (length s) d.roots) is roots))
-    (subst (λ (n : ℕ). IsValidCount (demo_history count) certificates date n d.accepted) all (subst (λ (s : List Step). IsValidCount s certificates date (length s) d.accepted) is accepted))
+    (subst (λ (n : ℕ). IsValidCount (demo_history count) certificates date n d.accepted) all
+    (subst (λ (s : List Step). IsValidCount s certificates date (length s) d.accepted) is accepted))
     sum

@@ -8,7 +8,8 @@ use Rattle.der_core.specs.Elements.{bit_octets, octet_string, sequence, set}
 use Rattle.der_core.specs.Encoding.{encoding}
 use Rattle.asn1_types.specs.Elements.{integer_of, object_identifier_of}
 use Rattle.asn1_types.specs.Time.{two_digits}
-use Rattle.asn1_types.specs.declared.oids.TheConstants.{AT_COMMON_NAME, CE_AUTHORITY_KEY_IDENTIFIER, CE_BASIC_CONSTRAINTS, CE_SUBJECT_KEY_IDENTIFIER, SHA256_WITH_RSA_ENCRYPTION}
+use Rattle.asn1_types.specs.declared.oids.TheConstants.{AT_COMMON_NAME, CE_AUTHORITY_KEY_IDENTIFIER, CE_BASIC_CONSTRAINTS}
+use Rattle.asn1_types.specs.declared.oids.TheConstants.{CE_SUBJECT_KEY_IDENTIFIER, SHA256_WITH_RSA_ENCRYPTION}
 use Rattle.extension_types.specs.AuthorityKeyIdentifier.{authority_key_of}
 use Rattle.extension_types.specs.BasicConstraints.{basic_constraints, constraints_with}
 use Rattle.sig_core.specs.DemoScheme.{demo_signature}

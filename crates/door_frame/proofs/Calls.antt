@@ -1,5 +1,6 @@
 -- What a call does follows from a run over its files.
-use Rattle.std.proofs.Common.{◌≡◌, ◌⊎◌, ℕ, zero, suc, ◌==◌, ◌<◌, ◌≤◌, List, [], ◌∷◌, ◌++◌, length, Bool, true, false, Some, inl, inr, refl, sym, ◌∙◌, ap, subst, arith}
+use Rattle.std.proofs.Common.{◌≡◌, ◌⊎◌, ℕ, zero, suc, ◌==◌, ◌<◌, ◌≤◌, List, [], ◌∷◌, ◌++◌, length}
+use Rattle.std.proofs.Common.{Bool, true, false, Some, inl, inr, refl, sym, ◌∙◌, ap, subst, arith}
 use Rattle.std.specs.Prelude.{if◌then◌else◌}
 use Rattle.std.specs.Prelude.{Any}
 use Rattle.std.proofs.lemmas.Bool.{cases_lt}
@@ -70,7 +71,8 @@ module _ {Job : Type 0} (program : Program Job) (words : List (List ℕ)) (files
       → (((status ≡ answer.status) × (handed_line status held ≡ answer.text)) ⊎ (status ≡ 7)) ⊎ ((status ≡ 5) × (room < length answer.text))
   answered job answer some is = elim (run.answered job answer some tt refl is) [
     | inl stands ↦ elim stands [
-      | inl reports ↦ inl (inl (reports.0, line_low status held (omega (arith, reports.0, low job answer is)) ∙ same_some held answer.text (sym held_is ∙ reports.1 [] refl)))
+      | inl reports ↦ inl
+          (inl (reports.0, line_low status held (omega (arith, reports.0, low job answer is)) ∙ same_some held answer.text (sym held_is ∙ reports.1 [] refl)))
       | inr memory ↦ inl (inr memory)
     ]
     | inr lost ↦ inr (

@@ -15,7 +15,13 @@ use Rattle.door_frame.proofs.Calls.{IsCall-run, within_room}
 
 unread : (shelf : LentShelf) (files : Files) → (lent_state shelf).files ≡ Some files → (lent_state shelf).rest ≡ Some [] → (lent_state shelf).given ≡ 0
     → (lent_state shelf).faults ≡ 0 → lent_state shelf ≡ unread_files files
-unread shelf files files_are rest_is given_is faults_are = λ i. record { files = files_are i; rest = rest_is i; given = given_is i; faults = faults_are i; is_quiet = Unit {0} }
+unread shelf files files_are rest_is given_is faults_are = λ i. record {
+  files = files_are i;
+  rest = rest_is i;
+  given = given_is i;
+  faults = faults_are i;
+  is_quiet = Unit {0};
+}
 
 empty : (out : MemSink) (room : ℕ) → sink_held out ≡ [] → sink_room out ≡ room → sink_faults out ≡ 0 → sink_state out ≡ empty_sink room
 empty out room held_is room_is faults_are = λ i. record { held = Some (held_is i); room = Some (room_is i); faults = faults_are i }
@@ -39,8 +45,10 @@ module _ (files : Files) (shelf : LentShelf) (files_are : (lent_state shelf).fil
       (run : IsRun program words (lent_state shelf) (lent_state shelf_now) (sink_state out) (sink_state out_now) status) where
     over_files : IsRun program words (unread_files files) (lent_state shelf_now) (empty_sink room) (sink_state out_now) status
     over_files =
-        subst (λ (s : ShelfState). IsRun program words s (lent_state shelf_now) (empty_sink room) (sink_state out_now) status) (unread shelf files files_are rest_is given_is faults_are)
-        (subst (λ (o : SinkState). IsRun program words (lent_state shelf) (lent_state shelf_now) o (sink_state out_now) status) (empty out room held_is room_is none) run)
+        subst (λ (s : ShelfState). IsRun program words s (lent_state shelf_now) (empty_sink room) (sink_state out_now) status)
+        (unread shelf files files_are rest_is given_is faults_are)
+        (subst (λ (o : SinkState). IsRun program words (lent_state shelf) (lent_state shelf_now) o (sink_state out_now) status)
+        (empty out room held_is room_is none) run)
 
     -- the line fits into a buffer of the sink's room
     pub line_fits : length (sink_held out_now) ≤ room

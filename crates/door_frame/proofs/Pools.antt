@@ -23,7 +23,8 @@ or_if : {A : Type 0} (b : Bool) (x : A) (r o e : Option A) → r ≡ option_or o
 or_if true x r o e same = refl
 or_if false x r o e same = same
 
-pub lent-push : (files : List LentFile) (file : LentFile) (name : List ℕ) → lent_files (files ++ file ∷ []) name ≡ option_or (lent_files files name) (named file name)
+pub lent-push : (files : List LentFile) (file : LentFile) (name : List ℕ)
+    → lent_files (files ++ file ∷ []) name ≡ option_or (lent_files files name) (named file name)
 lent-push [] file name = refl
 lent-push (first ∷ files) file name = or_if (bytes_eq first.name.now name) first.octets.now _ _ _ (lent-push files file name)
 
@@ -45,7 +46,8 @@ drop_cut m n xs is = elim (cases_lt n (length xs)) [
   | inr long ↦ drop_all m xs (omega (arith, is, long)) ∙ sym (drop_all n xs long)
 ]
 
-pub one_more : (files pushed all : List LentFile) (file : LentFile) (first : List ℕ) (names : List (List ℕ)) (pool octets rest : List ℕ) (count : ℕ) (lengths : List ℕ)
+pub one_more : (files pushed all : List LentFile) (file : LentFile) (first : List ℕ) (names : List (List ℕ)) (pool octets rest : List ℕ) (count : ℕ)
+    (lengths : List ℕ)
     → pushed ≡ files ++ file ∷ [] → file.name.now ≡ first → file.octets.now ≡ octets → octets ≡ take count pool → rest ≡ drop count pool
     → ((name : List ℕ) → lent_files all name ≡ option_or (lent_files pushed name) (pooled_under names rest lengths name))
     → (name : List ℕ) → lent_files all name ≡ option_or (lent_files files name) (pooled_under (first ∷ names) pool (count ∷ lengths) name)
@@ -56,4 +58,5 @@ one_more files pushed all file first names pool octets rest count lengths push i
     ∙ ap (λ r. option_or (option_or (lent_files files name) (named file name)) (pooled_under names r lengths name)) is_rest
     ∙ or_named (lent_files files name) (pooled_under names (drop count pool) lengths name) (bytes_eq file.name.now name) file.octets.now
     ∙ ap (λ n. option_or (lent_files files name) (if bytes_eq n name then Some file.octets.now else pooled_under names (drop count pool) lengths name)) is_first
-    ∙ ap (λ x. option_or (lent_files files name) (if bytes_eq first name then Some x else pooled_under names (drop count pool) lengths name)) (is_octets ∙ are_octets)
+    ∙ ap (λ x. option_or (lent_files files name) (if bytes_eq first name then Some x else pooled_under names (drop count pool) lengths name))
+    (is_octets ∙ are_octets)

@@ -31,7 +31,8 @@ module _ (file table date_word : List ℕ) (option_words : List (List ℕ)) wher
 
   options_in : (job : Job) → AsksFor Words job → AreOptions option_words job.options
   options_in job asked =
-      subst (λ (os : List (List ℕ)). AreOptions os job.options) (sym (same_option_words job.file job.table asked.date_word asked.option_words asked.words_are)) asked.options_are
+      subst (λ (os : List (List ℕ)). AreOptions os job.options) (sym (same_option_words job.file job.table asked.date_word asked.option_words asked.words_are))
+      asked.options_are
 
   date_in : (job : Job) → AsksFor Words job → IsDateWord date_word job.date
   date_in job asked =
@@ -55,7 +56,8 @@ module _ (file table date_word : List ℕ) (option_words : List (List ℕ)) wher
     }
 
     -- they request one job
-    pub only_job : ((d : GeneralizedTime) → IsDateWord date_word d → Some date ≡ Some d) → ((o : CheckOptions) → AreOptions option_words o → Some options ≡ Some o)
+    pub only_job : ((d : GeneralizedTime) → IsDateWord date_word d → Some date ≡ Some d)
+        → ((o : CheckOptions) → AreOptions option_words o → Some options ≡ Some o)
         → (job : Job) → AsksFor Words job → Some job_in ≡ Some job
     only_job dates all job asked =
         let same_file : file ≡ job.file = (let are = asked.words_are in cc) in

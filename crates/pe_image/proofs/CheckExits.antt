@@ -25,11 +25,13 @@ pub broken_same : IsBrokenOnce → (octets : List ℕ) (e f : PeError) → IsFir
     → ◌≡◌ {A = Result Accepted PeCheckError} (Err (Pe e)) (Err (Pe f))
 broken_same once octets e f p q = ap (λ (x : PeError). Err (Pe x)) (once octets e f p q)
 
-states_none : FaultsAreOne → FaultsExclude → (table : List ℕ) → (algorithm : HashAlgorithm) × NamesImageDigest table algorithm → (e : CheckError) → RefusesValue table e → ⊥
+states_none : FaultsAreOne → FaultsExclude → (table : List ℕ) → (algorithm : HashAlgorithm) × NamesImageDigest table algorithm → (e : CheckError)
+    → RefusesValue table e → ⊥
 states_none at_most_one exclude table (algorithm, names) e refuses = unread at_most_one exclude table e refuses names.1.f names.1.signed
 
 -- a digest is computed only of a file whose table begins with signed data
-pub undigested : FaultsAreOne → FaultsExclude → (file octets : List ℕ) → file ≡ octets → (algorithm : HashAlgorithm) × NamesImageDigest (table_of file) algorithm
+pub undigested : FaultsAreOne → FaultsExclude → (file octets : List ℕ) → file ≡ octets
+    → (algorithm : HashAlgorithm) × NamesImageDigest (table_of file) algorithm
     → (e : CheckError) → RefusesValue (table_of octets) e → ⊥
 undigested at_most_one exclude file octets same names e refuses =
     states_none at_most_one exclude (table_of file) names e (subst (λ (o : List ℕ). RefusesValue (table_of o) e) (sym same) refuses)
@@ -49,12 +51,15 @@ module _ (judge : Judge) (policy : Policy) (octets file table : List ℕ) (file_
         subst (λ (x : Result Accepted PeCheckError). IsPeAnswer judge policy octets x) (sym is)
         (table_answer judge policy octets image hash hash_is w (subst (λ (t : List ℕ). IsAnswer judge (policy_for policy hash) t w) table_same answer))
 
-    pub exit_only : IsUnbroken → ((other : Result Accepted CheckError) → IsAnswer judge (policy_for policy hash) table other → AreOneUnlessMemory checks.Memory w other)
+    pub exit_only : IsUnbroken
+        → ((other : Result Accepted CheckError) → IsAnswer judge (policy_for policy hash) table other → AreOneUnlessMemory checks.Memory w other)
         → (other : Result Accepted PeCheckError) → IsPeAnswer judge policy octets other → AreOneUnlessMemory Memory r other
     exit_only unbroken only other k =
         subst (λ (x : Result Accepted PeCheckError). AreOneUnlessMemory Memory x other) (sym is)
-        (only_table judge policy octets image hash hash_is unbroken w (λ o answer. only o (subst (λ (t : List ℕ). IsAnswer judge (policy_for policy hash) t o) (sym table_same) answer)) other k)
+        (only_table judge policy octets image hash hash_is unbroken w
+        (λ o answer. only o (subst (λ (t : List ℕ). IsAnswer judge (policy_for policy hash) t o) (sym table_same) answer)) other k)
 
-    pub exit_unread : ((e : CheckError) → RefusesForm (policy_for policy hash) table e → w ≡ Err e) → (e : CheckError) → RefusesValue (table_of octets) e → r ≡ Err (Check e)
+    pub exit_unread : ((e : CheckError) → RefusesForm (policy_for policy hash) table e → w ≡ Err e) → (e : CheckError) → RefusesValue (table_of octets) e
+        → r ≡ Err (Check e)
     exit_unread refused e refuses =
         is ∙ returned_value (policy_for policy hash) table w refused e (subst (λ (t : List ℕ). RefusesValue t e) (sym table_same) refuses)

@@ -27,7 +27,8 @@ refusal_is octets cause unread =
 pub wants : (e : PeCheckError) → e ≡ Memory → IsOutOfMemory (Err e)
 wants e is = subst (λ (x : PeCheckError). IsOutOfMemory (Err x)) (sym is) tt
 
-pub unread_for_memory : (octets : List ℕ) (list : CertificateTrustList) (answer : Result Accepted PeCheckError) → IsTrustList octets list → IsListRefusal octets answer → IsOutOfMemory answer
+pub unread_for_memory : (octets : List ℕ) (list : CertificateTrustList) (answer : Result Accepted PeCheckError) → IsTrustList octets list
+    → IsListRefusal octets answer → IsOutOfMemory answer
 unread_for_memory octets list (Ok accepted) is refusal = absurd refusal
 unread_for_memory octets list (Err e) is refusal =
     wants e (refusal.2 ∙ ap of_check (list_unread octets list refusal.0 is refusal.1))

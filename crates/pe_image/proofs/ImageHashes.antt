@@ -17,11 +17,14 @@ use Rattle.pe_image.specs.ImageHash.{BindsImage, IsImageHash, NamesImageDigest}
 use Rattle.pe_image.specs.PeAnswer.{IsTableAnswer}
 
 -- indirect data of the table's signed data is that in which the digest is
-one_indirect : (table : List ℕ) (f : SignedDataElements) (d : IndirectData) (algorithm : HashAlgorithm) → HasSignedData table f → HasIndirectData f d → (names : NamesImageDigest table algorithm) → names.1.d ≡ d
+one_indirect : (table : List ℕ) (f : SignedDataElements) (d : IndirectData) (algorithm : HashAlgorithm) → HasSignedData table f → HasIndirectData f d
+    → (names : NamesImageDigest table algorithm) → names.1.d ≡ d
 one_indirect table f d algorithm has indirect names =
-    indirect_once f names.1.d d (subst (λ (x : SignedDataElements). HasIndirectData x names.1.d) (one_data table names.1.f f names.1.signed has) names.1.indirect) indirect
+    indirect_once f names.1.d d
+    (subst (λ (x : SignedDataElements). HasIndirectData x names.1.d) (one_data table names.1.f f names.1.signed has) names.1.indirect) indirect
 
-pub named_by : (table : List ℕ) (f : SignedDataElements) (d : IndirectData) (algorithm : HashAlgorithm) → HasSignedData table f → HasIndirectData f d → NamesImageDigest table algorithm → NamesDigest d.algorithm algorithm
+pub named_by : (table : List ℕ) (f : SignedDataElements) (d : IndirectData) (algorithm : HashAlgorithm) → HasSignedData table f → HasIndirectData f d
+    → NamesImageDigest table algorithm → NamesDigest d.algorithm algorithm
 named_by table f d algorithm has indirect names =
     subst (λ (x : IndirectData). NamesDigest x.algorithm algorithm) (one_indirect table f d algorithm has indirect names) names.1.named
 

@@ -55,7 +55,8 @@ module _ (judge : Judge) (date : GeneralizedTime) (options : CheckOptions) (octe
 
     -- ---- if it isn't
 
-    same_line : (e f : PeCheckError) (result : Result Report Stop) → IsListRefusal list_octets (Err e) → IsListRefusal list_octets (Err f) → IsReported (Err e) result
+    same_line : (e f : PeCheckError) (result : Result Report Stop) → IsListRefusal list_octets (Err e) → IsListRefusal list_octets (Err f)
+        → IsReported (Err e) result
         → (IsOutOfMemory (Err f) → ⊥) → IsReported (Err f) result
     same_line e f result a b h other = elim (unread_line list_octets e a) [
       | inl memory ↦ out_of_memory (Err e) (Err f) result (wants e memory) h
@@ -75,4 +76,5 @@ module _ (judge : Judge) (date : GeneralizedTime) (options : CheckOptions) (octe
     pub unread_reported : (e : PeCheckError) → IsListRefusal list_octets (Err e) → (result : Result Report Stop) → IsReported (Err e) result
         → Reports (IsListAnswer judge (program_policy date options) octets (list_octets ∷ others)) result
     unread_reported e unread result h =
-        reported_is (IsListAnswer judge (program_policy date options) octets (list_octets ∷ others)) (Err e) result (inl unread) h (given_unread e unread result h)
+        reported_is (IsListAnswer judge (program_policy date options) octets (list_octets ∷ others)) (Err e) result (inl unread) h
+        (given_unread e unread result h)

@@ -25,7 +25,8 @@ out_of_memory answer other (Ok report) wants h = absurd (h.reportable wants)
 out_of_memory answer other (Err s) wants h = h
 
 -- what is reported is a result, and without a report memory ran out
-pub reported_is : (Is : Result Accepted PeCheckError → Type 0) (answer : Result Accepted PeCheckError) (result : Result Report Stop) → Is answer → IsReported answer result
+pub reported_is : (Is : Result Accepted PeCheckError → Type 0) (answer : Result Accepted PeCheckError) (result : Result Report Stop) → Is answer
+    → IsReported answer result
     → ((other : Result Accepted PeCheckError) → Is other → GivesReport other result) → Reports Is result
 reported_is Is answer (Ok report) is h only = record { reported = (answer, is, h); stopped = tt; only = only }
 reported_is Is answer (Err s) is h only = record { reported = tt; stopped = h; only = only }
@@ -37,7 +38,8 @@ low (Ok a) = omega arith
 low (Err e) = omega arith
 
 -- a report of a result has the line that reports it
-pub gives_line : (answer : Result Accepted PeCheckError) (line : Line) (result : Result Report Stop) → line.status ≡ status_of answer → line.text ≡ report_line answer
+pub gives_line : (answer : Result Accepted PeCheckError) (line : Line) (result : Result Report Stop) → line.status ≡ status_of answer
+    → line.text ≡ report_line answer
     → IsReported answer result → GivesLine line result
 gives_line answer line (Ok report) status text h =
     let same_status : report.status ≡ line.status = h.status ∙ sym status in

@@ -33,7 +33,8 @@ unread at_most_one exclude table e refuses f has =
 
 one_first : (octets : List ℕ) (a b : DerElement) (m n : ℕ) → IsFirst octets a m → IsFirst octets b n → (a ≡ b) × (m ≡ n)
 one_first octets a b m n first second =
-    let same = fronts a b (drop m octets) (drop n octets) first.der.formed second.der.formed first.der.short second.der.short (split first ∙ sym (split second)) in
+    let same =
+    fronts a b (drop m octets) (drop n octets) first.der.formed second.der.formed first.der.short second.der.short (split first ∙ sym (split second)) in
     (same.0, first.many ∙ ap (λ t. length (encoding t)) same.0 ∙ sym second.many) where
       split : {t : DerElement} {k : ℕ} → IsFirst octets t k → encoding t ++ drop k octets ≡ octets
       split {t} {k} h = ap (λ front. front ++ drop k octets) (sym h.front) ∙ take-append-drop k octets
@@ -46,7 +47,8 @@ not_both exclude octets element m padded (inr h) =
     h.1.unpadded (padded.1, padded.2, ap (drop m.at) padded.3 ∙ drop_at (encoding element) (replicate padded.1 0) m.at same.1)
 
 -- a malformed certificate is no signed data
-pub malformed : FaultsExclude → (table certificate : List ℕ) (m : Malformed) → contents_in table ≡ Ok certificate → IsMalformedPadded certificate m → (f : SignedDataElements) → HasSignedData table f → ⊥
+pub malformed : FaultsExclude → (table certificate : List ℕ) (m : Malformed) → contents_in table ≡ Ok certificate → IsMalformedPadded certificate m
+    → (f : SignedDataElements) → HasSignedData table f → ⊥
 malformed exclude table certificate m named cause f has =
     let same = same_certificate table has.certificate certificate has.named named in
     not_both exclude certificate (pkcs7 has.value) m (subst (λ (c : List ℕ). IsPaddedEncoding c (pkcs7 has.value)) same has.spelled) cause

@@ -37,30 +37,36 @@ module _ (table : List ℕ) (f : SignedDataElements) (has : HasSignedData table 
 
   pub contentless : (content_type : DerElement) → f.content_info ≡ content_info_of content_type None → NamesNone table
   contentless content_type is algorithm names =
-      let same : None ≡ Some (sequence (indirect_kids names.1.d)) = (fields_once content_type (Primitive 0x06 SPC_INDIRECT_DATA.now) None (Some (sequence (indirect_kids names.1.d))) (sym is ∙ indirect_in algorithm names)).1 in
+      let same : None ≡ Some (sequence (indirect_kids names.1.d)) = (fields_once content_type (Primitive 0x06 SPC_INDIRECT_DATA.now) None
+      (Some (sequence (indirect_kids names.1.d))) (sym is ∙ indirect_in algorithm names)).1 in
       absurd cc
 
-  pub of_other_type : (content_type : List ℕ) (found : Option DerElement) → f.content_info ≡ content_info_of (Primitive 0x06 content_type) found → content_type ≢ SPC_INDIRECT_DATA.now → NamesNone table
+  pub of_other_type : (content_type : List ℕ) (found : Option DerElement) → f.content_info ≡ content_info_of (Primitive 0x06 content_type) found
+      → content_type ≢ SPC_INDIRECT_DATA.now → NamesNone table
   of_other_type content_type found is differs algorithm names =
       differs (content_once f content_type SPC_INDIRECT_DATA.now found (Some (sequence (indirect_kids names.1.d))) is (indirect_in algorithm names)).0
 
   module _ (other element : DerElement) (is : f.content_info ≡ content_info_of other (Some element)) where
     element_is : (algorithm : HashAlgorithm) (names : NamesImageDigest table algorithm) → element ≡ sequence (indirect_kids names.1.d)
     element_is algorithm names =
-        some_of element (sequence (indirect_kids names.1.d)) (fields_once other (Primitive 0x06 SPC_INDIRECT_DATA.now) (Some element) (Some (sequence (indirect_kids names.1.d))) (sym is ∙ indirect_in algorithm names)).1
+        some_of element (sequence (indirect_kids names.1.d)) (fields_once other (Primitive 0x06 SPC_INDIRECT_DATA.now) (Some element)
+        (Some (sequence (indirect_kids names.1.d))) (sym is ∙ indirect_in algorithm names)).1
 
     module _ (image info : DerElement) (pair : element ≡ Constructed 0x30 (row (image ∷ info ∷ []))) where
-      info_is : (algorithm : HashAlgorithm) (names : NamesImageDigest table algorithm) → info ≡ sequence (names.1.d.algorithm ∷ octet_string names.1.d.digest ∷ [])
+      info_is : (algorithm : HashAlgorithm) (names : NamesImageDigest table algorithm)
+          → info ≡ sequence (names.1.d.algorithm ∷ octet_string names.1.d.digest ∷ [])
       info_is algorithm names =
           second_of image info names.1.d.image (sequence (names.1.d.algorithm ∷ octet_string names.1.d.digest ∷ [])) (sym pair ∙ element_is algorithm names)
 
       module _ (identifier digest : DerElement) (fields : info ≡ Constructed 0x30 (row (identifier ∷ digest ∷ []))) where
         unnamed : ((hash : HashAlgorithm) → NamesDigest identifier hash → ⊥) → NamesNone table
         unnamed none algorithm names =
-            let same : identifier ≡ names.1.d.algorithm = first_of identifier digest names.1.d.algorithm (octet_string names.1.d.digest) (sym fields ∙ info_is algorithm names) in
+            let same : identifier ≡ names.1.d.algorithm =
+            first_of identifier digest names.1.d.algorithm (octet_string names.1.d.digest) (sym fields ∙ info_is algorithm names) in
             none algorithm (subst (λ (x : DerElement). NamesDigest x algorithm) (sym same) names.1.named)
 
-        module _ (content_type : List ℕ) (found : Option DerElement) (typed : f.content_info ≡ content_info_of (Primitive 0x06 content_type) found) (named : content_type ≡ SPC_INDIRECT_DATA.now) where
+        module _ (content_type : List ℕ) (found : Option DerElement) (typed : f.content_info ≡ content_info_of (Primitive 0x06 content_type) found)
+            (named : content_type ≡ SPC_INDIRECT_DATA.now) where
           content : HasSignedContent f content_type (Some element)
           content = content_is f content_type other found (Some element) typed is
 
@@ -70,9 +76,11 @@ module _ (table : List ℕ) (f : SignedDataElements) (has : HasSignedData table 
           names_one : (algorithm : HashAlgorithm) → NamesDigest identifier algorithm → NamesImageDigest table algorithm
           names_one algorithm names =
               let d = indirect.0 in
-              let info_same : info ≡ sequence (d.algorithm ∷ octet_string d.digest ∷ []) = second_of image info d.image (sequence (d.algorithm ∷ octet_string d.digest ∷ [])) (sym pair ∙ indirect.1) in
+              let info_same : info ≡ sequence (d.algorithm ∷ octet_string d.digest ∷ []) =
+              second_of image info d.image (sequence (d.algorithm ∷ octet_string d.digest ∷ [])) (sym pair ∙ indirect.1) in
               let same : identifier ≡ d.algorithm = first_of identifier digest d.algorithm (octet_string d.digest) (sym fields ∙ info_same) in
-              let typed_so : HasSignedContent f SPC_INDIRECT_DATA.now (Some element) = subst (λ (t : List ℕ). HasSignedContent f t (Some element)) named content in (
+              let typed_so : HasSignedContent f SPC_INDIRECT_DATA.now (Some element) =
+              subst (λ (t : List ℕ). HasSignedContent f t (Some element)) named content in (
                 d.digest,
                 record {
                   f = f;
@@ -84,6 +92,7 @@ module _ (table : List ℕ) (f : SignedDataElements) (has : HasSignedData table 
                 },
               )
 
-          pub named_in : (r : Option HashAlgorithm) → MatchOption r ((hash : HashAlgorithm) → NamesDigest identifier hash → ⊥) (NamesDigest identifier) → MatchOption r (NamesNone table) (NamesImageDigest table)
+          pub named_in : (r : Option HashAlgorithm) → MatchOption r ((hash : HashAlgorithm) → NamesDigest identifier hash → ⊥) (NamesDigest identifier)
+              → MatchOption r (NamesNone table) (NamesImageDigest table)
           named_in None none = unnamed none
           named_in (Some algorithm) names = names_one algorithm names

@@ -60,31 +60,37 @@ module _ (judge : Judge) (policy : Policy) (octets : List ℕ) where
   only_broken unbroken once e broken (Err Memory) k = inr (inr refl)
 
   module _ (image : IsSignedImage octets) (hash : Option (List ℕ)) (hash_is : IsImageHash octets hash) where
-    in_table : (result : Result Accepted CheckError) → IsAnswer judge (policy_for policy hash) (table_of octets) result → IsTableAnswer judge policy octets result
+    in_table : (result : Result Accepted CheckError) → IsAnswer judge (policy_for policy hash) (table_of octets) result
+        → IsTableAnswer judge policy octets result
     in_table result answer = record { image = image; hash = hash; hash_is = hash_is; answer = answer }
 
-    pub table_answer : (result : Result Accepted CheckError) → IsAnswer judge (policy_for policy hash) (table_of octets) result → IsPeAnswer judge policy octets (returned result)
+    pub table_answer : (result : Result Accepted CheckError) → IsAnswer judge (policy_for policy hash) (table_of octets) result
+        → IsPeAnswer judge policy octets (returned result)
     table_answer (Ok accepted) answer = in_table (Ok accepted) answer
     table_answer (Err (checks.Win e)) answer = (in_table (Err (checks.Win e)) answer, (λ same. absurd cc))
     table_answer (Err (checks.Authenticode e)) answer = (in_table (Err (checks.Authenticode e)) answer, (λ same. absurd cc))
     table_answer (Err checks.Memory) answer = tt
 
-    of_table : (result : Result Accepted CheckError) → IsTableAnswer judge policy octets result → IsAnswer judge (policy_for policy hash) (table_of octets) result
+    of_table : (result : Result Accepted CheckError) → IsTableAnswer judge policy octets result
+        → IsAnswer judge (policy_for policy hash) (table_of octets) result
     of_table result t =
         subst (λ (h : Option (List ℕ)). IsAnswer judge (policy_for policy h) (table_of octets) result) (one_hash octets t.hash hash t.hash_is hash_is) t.answer
 
-    accepted_one : (result : Result Accepted CheckError) (accepted : Accepted) → AreOneUnlessMemory checks.Memory result (Ok accepted) → AreOneUnlessMemory Memory (returned result) (Ok accepted)
+    accepted_one : (result : Result Accepted CheckError) (accepted : Accepted) → AreOneUnlessMemory checks.Memory result (Ok accepted)
+        → AreOneUnlessMemory Memory (returned result) (Ok accepted)
     accepted_one result accepted (inl same) = inl (ap returned same)
     accepted_one result accepted (inr (inl memory)) = inr (inl (ap returned memory))
     accepted_one result accepted (inr (inr memory)) = absurd cc
 
-    refused_one : (result : Result Accepted CheckError) (e : CheckError) → e ≢ checks.Memory → AreOneUnlessMemory checks.Memory result (Err e) → AreOneUnlessMemory Memory (returned result) (Err (Check e))
+    refused_one : (result : Result Accepted CheckError) (e : CheckError) → e ≢ checks.Memory → AreOneUnlessMemory checks.Memory result (Err e)
+        → AreOneUnlessMemory Memory (returned result) (Err (Check e))
     refused_one result e other (inl same) = inl (ap returned same ∙ ap Err (returned_so e other))
     refused_one result e other (inr (inl memory)) = inr (inl (ap returned memory))
     refused_one result e other (inr (inr memory)) = absurd (other (error_of e checks.Memory memory))
 
     pub only_table : IsUnbroken → (result : Result Accepted CheckError)
-        → ((other : Result Accepted CheckError) → IsAnswer judge (policy_for policy hash) (table_of octets) other → AreOneUnlessMemory checks.Memory result other)
+        → ((other : Result Accepted CheckError) → IsAnswer judge (policy_for policy hash) (table_of octets) other
+        → AreOneUnlessMemory checks.Memory result other)
         → (other : Result Accepted PeCheckError) → IsPeAnswer judge policy octets other → AreOneUnlessMemory Memory (returned result) other
     only_table unbroken result only (Ok accepted) k = accepted_one result accepted (only (Ok accepted) (of_table (Ok accepted) k))
     only_table unbroken result only (Err (Pe e)) k = absurd (unbroken octets e image k)

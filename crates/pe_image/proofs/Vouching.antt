@@ -32,7 +32,8 @@ use Rattle.pe_image.specs.Words.{AsksFor, Job, files_of}
 use Rattle.pe_image.specs.declared.error.PeCheckError.{PeCheckError}
 use Rattle.pe_image.proofs.ImageHashes.{named_by}
 
-vouched_image : (rows : List VerdictRow) (date : GeneralizedTime) (options : CheckOptions) (list : Option (Bor CertificateTrustList)) (octets : List ℕ) (a : Accepted)
+vouched_image : (rows : List VerdictRow) (date : GeneralizedTime) (options : CheckOptions) (list : Option (Bor CertificateTrustList)) (octets : List ℕ)
+    (a : Accepted)
     → IsPeAnswer (verdict_of rows) (program_policy date options list) octets (Ok a) → IsVouchedImage rows (program_policy date options list) octets a
 vouched_image rows date options list octets a trusted =
     let f = trusted.answer.0 in
@@ -57,8 +58,10 @@ vouched_image rows date options list octets a trusted =
       place = basic.place;
       place_is = basic.place_is;
       vouches = basic.vouches;
-      signer = subst (λ (h : Option (List ℕ)). IsSignerVouched (verdict_of rows) (policy_for (program_policy date options list) h) f a) basic.given (trusted.answer.2.signing refl);
-      listed = λ there. subst (λ (h : Option (List ℕ)). IsSignerListed (policy_for (program_policy date options list) h) f a) basic.given (trusted.answer.2.listed there);
+      signer = subst (λ (h : Option (List ℕ)). IsSignerVouched (verdict_of rows) (policy_for (program_policy date options list) h) f a) basic.given
+          (trusted.answer.2.signing refl);
+      listed = λ there. subst (λ (h : Option (List ℕ)). IsSignerListed (policy_for (program_policy date options list) h) f a) basic.given
+          (trusted.answer.2.listed there);
     }
 
 -- The trust list that was read, if there is one, and the acceptance under it.
@@ -91,7 +94,8 @@ module _ (words : List (List ℕ)) (shelf shelf_now : ShelfState) (held held_now
       subst (λ (n : ℕ). HandsOut n shelf shelf_now) (omega (arith, all, one)) given
 
   module _ (job : Job) (asked : AsksFor words job) (rows : List VerdictRow) where
-    of_contents : (contents : List (List ℕ)) (answer : Result Accepted PeCheckError) → AreWholeFiles shelf.files (files_of job) contents → IsTable (table_in contents) rows
+    of_contents : (contents : List (List ℕ)) (answer : Result Accepted PeCheckError) → AreWholeFiles shelf.files (files_of job) contents
+        → IsTable (table_in contents) rows
         → IsAnswerTo (verdict_of rows) job contents answer → status_of answer ≡ 0 → HandsOut (total_length contents) shelf shelf_now
         → Appends held (report_line answer) held_now → IsVouchedProgram words shelf shelf_now held held_now
     of_contents [] answer are is_table is_answer zero given written = absurd are
@@ -121,5 +125,6 @@ module _ (words : List (List ℕ)) (shelf shelf_now : ShelfState) (held held_now
   vouched_for line h zero written =
       let read = h.2 in
       let returned = read.is_answered.is_answer in
-      of_contents h.0 h.1 returned.rows read.is_answered.contents returned.answer read.is_answered.are_files returned.is_table returned.is_answer (sym returned.status ∙ zero) read.given
+      of_contents h.0 h.1 returned.rows read.is_answered.contents returned.answer read.is_answered.are_files returned.is_table returned.is_answer
+      (sym returned.status ∙ zero) read.given
       (subst (λ (text : List ℕ). Appends held text held_now) returned.text written)

@@ -1,5 +1,6 @@
 -- The words of a command, by their texts.
-use Rattle.std.proofs.Common.{◌≡◌, ℕ, ◌-◌, ◌≤◌, List, [], ◌∷◌, length, get_or, take, drop, map, option_map, Bool, true, Option, Some, None, IsSome, refl, sym, ap, subst, ◌∙◌, arith}
+use Rattle.std.proofs.Common.{◌≡◌, ℕ, ◌-◌, ◌≤◌, List, [], ◌∷◌, length, get_or, take, drop, map, option_map}
+use Rattle.std.proofs.Common.{Bool, true, Option, Some, None, IsSome, refl, sym, ap, subst, ◌∙◌, arith}
 use Rattle.std.specs.Prelude.{codes}
 use Rattle.std.specs.Str.{bytes_eq}
 use Rattle.std.proofs.lemmas.List.{take_all}
@@ -66,7 +67,8 @@ module _ (signature table hash_word date_word : List ℕ) (option_words : List (
 
   options_in : (s t h : List ℕ) (d : GeneralizedTime) (o : CheckOptions) → IsCheck Words s t h d o → AreOptions option_words o
   options_in s t h d o asked =
-      subst (λ (os : List (List ℕ)). AreOptions os o) (sym (same_option_words s t asked.word asked.date_word asked.option_words asked.words_are)) asked.options_are
+      subst (λ (os : List (List ℕ)). AreOptions os o) (sym (same_option_words s t asked.word asked.date_word asked.option_words asked.words_are))
+      asked.options_are
 
   date_in : (s t h : List ℕ) (d : GeneralizedTime) (o : CheckOptions) → IsCheck Words s t h d o → IsDateWord date_word d
   date_in s t h d o asked =
@@ -78,7 +80,8 @@ module _ (signature table hash_word date_word : List ℕ) (option_words : List (
 
   no_chain : (t : List ℕ) (d : GeneralizedTime) (names : List (List ℕ)) → AsksFor Words (Chain t d names) → ⊥
   no_chain t d names asked =
-      chain_is_not_check (sym (first_word (codes "check") (codes "chain") (signature ∷ table ∷ hash_word ∷ date_word ∷ option_words) (t ∷ asked.word ∷ names) asked.words_are))
+      chain_is_not_check (sym (first_word (codes "check") (codes "chain") (signature ∷ table ∷ hash_word ∷ date_word ∷ option_words) (t ∷ asked.word ∷ names)
+      asked.words_are))
 
   -- if those after the date are no options, they are no command
   pub no_check : ((o : CheckOptions) → AreOptions option_words o → ⊥) → (job : Job) → AsksFor Words job → ⊥
@@ -87,7 +90,8 @@ module _ (signature table hash_word date_word : List ℕ) (option_words : List (
   no_check none (Chain t d names) asked = no_chain t d names asked
 
   module _ (date : GeneralizedTime) (options : CheckOptions) where
-    pub asks_check : (hash : List ℕ) × (asked_hash hash_word ≡ Some hash) → IsDateWord date_word date → AreOptions option_words options → (job : Job) × AsksFor Words job
+    pub asks_check : (hash : List ℕ) × (asked_hash hash_word ≡ Some hash) → IsDateWord date_word date → AreOptions option_words options
+        → (job : Job) × AsksFor Words job
     asks_check hash date_is options_are = (
       Check signature table hash.0 date options,
       record {

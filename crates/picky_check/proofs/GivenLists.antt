@@ -14,13 +14,16 @@ use Rattle.picky_check.specs.Report.{refused_line}
 abbrev list_line : List ℕ
 list_line = codes "refused FailedToParseCtl" ++ 10 ∷ []
 
-line_of : (source : DerError) → (of_content (of_ctl (unread_list source)) ≡ check.Memory) ⊎ (refused_line (of_content (of_ctl (unread_list source))) ≡ list_line)
+line_of : (source : DerError)
+    → (of_content (of_ctl (unread_list source)) ≡ check.Memory) ⊎ (refused_line (of_content (of_ctl (unread_list source))) ≡ list_line)
 line_of (der.Malformed m) = inr refl
 line_of der.Shape = inr refl
 line_of der.TooDeep = inr refl
 line_of der.TooLong = inr refl
 line_of der.Memory = inl refl
 
-pub unread_line : (octets : List ℕ) (e : CheckError) → IsUnreadList octets e → (e ≡ check.Memory) ⊎ (refused_line e ≡ codes "refused FailedToParseCtl" ++ 10 ∷ [])
+pub unread_line : (octets : List ℕ) (e : CheckError) → IsUnreadList octets e
+    → (e ≡ check.Memory) ⊎ (refused_line e ≡ codes "refused FailedToParseCtl" ++ 10 ∷ [])
 unread_line octets e unread =
-    subst (λ (x : CheckError). (x ≡ check.Memory) ⊎ (refused_line x ≡ list_line)) (sym (unread.2 ∙ ap (λ c. of_content (of_ctl c)) unread.1.1)) (line_of unread.1.0)
+    subst (λ (x : CheckError). (x ≡ check.Memory) ⊎ (refused_line x ≡ list_line)) (sym (unread.2 ∙ ap (λ c. of_content (of_ctl c)) unread.1.1))
+    (line_of unread.1.0)

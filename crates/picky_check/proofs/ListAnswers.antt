@@ -63,7 +63,8 @@ module _ (judge : Judge) (hash : List ℕ) (date : GeneralizedTime) (options : C
 
     -- ---- if it isn't
 
-    same_line : (e f : CheckError) (result : Result Report Stop) → IsUnreadList list_octets e → IsUnreadList list_octets f → IsReported (OfSignature (Err e)) result
+    same_line : (e f : CheckError) (result : Result Report Stop) → IsUnreadList list_octets e → IsUnreadList list_octets f
+        → IsReported (OfSignature (Err e)) result
         → (IsOutOfMemory (OfSignature (Err f)) → ⊥) → IsReported (OfSignature (Err f)) result
     same_line e f result a b h other = elim (unread_line list_octets e a) [
       | inl memory ↦ out_of_memory (OfSignature (Err e)) (OfSignature (Err f)) result (wants e memory) h
@@ -84,4 +85,5 @@ module _ (judge : Judge) (hash : List ℕ) (date : GeneralizedTime) (options : C
     pub unread_reported : (e : CheckError) → IsUnreadList list_octets e → (result : Result Report Stop) → IsReported (OfSignature (Err e)) result
         → Reports (IsListAnswer judge (check_policy hash date options) octets (list_octets ∷ others)) result
     unread_reported e unread result h =
-        reported_is (IsListAnswer judge (check_policy hash date options) octets (list_octets ∷ others)) (OfSignature (Err e)) result (inl unread) h (given_unread e unread result h)
+        reported_is (IsListAnswer judge (check_policy hash date options) octets (list_octets ∷ others)) (OfSignature (Err e)) result (inl unread) h
+        (given_unread e unread result h)

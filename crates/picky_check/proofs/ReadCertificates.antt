@@ -10,9 +10,16 @@ use Rattle.x509_core.specs.KeptCertificates.{AreKeptCertificates, IsFirstUnread}
 use Rattle.picky_check.specs.ChainAnswer.{IsAnswerOver, IsChainAnswer, all_checks}
 
 -- if it is read, and a later one isn't
-pub later_unread : (octets : List ℕ) (others all : List (List ℕ)) (e : CertError) (certificate : KeptCertificate) → all ≡ octets ∷ others → kept_octets certificate ≡ octets → IsFirstUnread others e → IsFirstUnread all e
+pub later_unread : (octets : List ℕ) (others all : List (List ℕ)) (e : CertError) (certificate : KeptCertificate) → all ≡ octets ∷ others
+    → kept_octets certificate ≡ octets → IsFirstUnread others e → IsFirstUnread all e
 later_unread octets others all e certificate are kept h =
-    record { read = certificate ∷ h.read; unread = h.unread; others = h.others; are = are ∙ ap₂ (λ (x : List ℕ) (xs : List (List ℕ)). x ∷ xs) (sym kept) h.are; refused = h.refused }
+    record {
+      read = certificate ∷ h.read;
+      unread = h.unread;
+      others = h.others;
+      are = are ∙ ap₂ (λ (x : List ℕ) (xs : List (List ℕ)). x ∷ xs) (sym kept) h.are;
+      refused = h.refused;
+    }
 
 -- a result for it is one for its octets
 pub answer_over : (judge : Judge) (date : GeneralizedTime) (octets : List ℕ) (others : List (List ℕ)) (checked : KeptCertificate) (answer : Result ℕ CertError)
@@ -23,7 +30,8 @@ answer_over judge date octets others checked answer kept (inr judged) =
     inr (checked ∷ judged.0, ap₂ (λ (x : List ℕ) (xs : List (List ℕ)). x ∷ xs) kept judged.1, judged.2)
 
 -- what was read are the parents
-module _ (judge : Judge) (date : GeneralizedTime) (octets : List (List ℕ)) (checked : KeptCertificate) (parents : List KeptCertificate) (are : AreKeptCertificates octets parents) where
+module _ (judge : Judge) (date : GeneralizedTime) (octets : List (List ℕ)) (checked : KeptCertificate) (parents : List KeptCertificate)
+    (are : AreKeptCertificates octets parents) where
   pub refused_over : (lent : List KeptCertificate) (e : CertError) → lent ≡ parents → RefusesCertBy (chain_rules judge (all_checks date) checked (Some lent)) e
       → IsAnswerOver judge date checked octets (Err e)
   refused_over lent e same refused =

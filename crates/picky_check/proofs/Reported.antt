@@ -52,12 +52,14 @@ gives_line answer line (Err s) status text h = h
 
 -- ---- for a signature file
 
-same_or_memory : (a b : Result Accepted CheckError) → AreOneUnlessMemory check.Memory a b → IsOutOfMemory (OfSignature a) ⊎ (IsOutOfMemory (OfSignature b) ⊎ (a ≡ b))
+same_or_memory : (a b : Result Accepted CheckError) → AreOneUnlessMemory check.Memory a b
+    → IsOutOfMemory (OfSignature a) ⊎ (IsOutOfMemory (OfSignature b) ⊎ (a ≡ b))
 same_or_memory a b (inl same) = inr (inr same)
 same_or_memory a b (inr (inl none)) = inl (subst (λ (x : Result Accepted CheckError). IsOutOfMemory (OfSignature x)) (sym none) tt)
 same_or_memory a b (inr (inr none)) = inr (inl (subst (λ (x : Result Accepted CheckError). IsOutOfMemory (OfSignature x)) (sym none) tt))
 
-given_signature : (a b : Result Accepted CheckError) (result : Result Report Stop) → IsReported (OfSignature a) result → AreOneUnlessMemory check.Memory a b → GivesReport (OfSignature b) result
+given_signature : (a b : Result Accepted CheckError) (result : Result Report Stop) → IsReported (OfSignature a) result → AreOneUnlessMemory check.Memory a b
+    → GivesReport (OfSignature b) result
 given_signature a b result h same other = elim (same_or_memory a b same) [
   | inl wants ↦ out_of_memory (OfSignature a) (OfSignature b) result wants h
   | inr rest ↦ elim rest [
@@ -66,7 +68,8 @@ given_signature a b result h same other = elim (same_or_memory a b same) [
   ]
 ]
 
-given_each : (judge : Judge) (policy : Policy) (octets : List ℕ) (a : Result Accepted CheckError) (result : Result Report Stop) → IsReported (OfSignature a) result
+given_each : (judge : Judge) (policy : Policy) (octets : List ℕ) (a : Result Accepted CheckError) (result : Result Report Stop)
+    → IsReported (OfSignature a) result
     → ((b : Result Accepted CheckError) → IsAnswer judge policy octets b → AreOneUnlessMemory check.Memory a b)
     → (b : Answer) → IsSignatureAnswer judge policy octets b → GivesReport b result
 given_each judge policy octets a result h only (OfSignature b) is = given_signature a b result h (only b is.is)

@@ -29,7 +29,8 @@ use Rattle.picky_check.proofs.Reported.{reported_is, out_of_memory, GivesReport-
 abbrev IsNamedAlike : CertError → CertError → Type 0
 IsNamedAlike e f = (e ≡ cert.Memory) ⊎ ((f ≡ cert.Memory) ⊎ (cert_error_name e ≡ cert_error_name f))
 
-unread_name : (source : DerError) → (unread elements.Certificate source ≡ cert.Memory) ⊎ (cert_error_name (unread elements.Certificate source) ≡ codes "Asn1Deserialization")
+unread_name : (source : DerError)
+    → (unread elements.Certificate source ≡ cert.Memory) ⊎ (cert_error_name (unread elements.Certificate source) ≡ codes "Asn1Deserialization")
 unread_name (der.Malformed m) = inr refl
 unread_name der.Shape = inr refl
 unread_name der.TooDeep = inr refl
@@ -60,7 +61,8 @@ accepted_parts : (judge : Judge) (date : GeneralizedTime) (octets : List (List �
 accepted_parts judge date octets count (inl unread) = absurd unread
 accepted_parts judge date octets count (inr judged) = judged
 
-one_count : (judge : Judge) (date : GeneralizedTime) (certificates : List KeptCertificate) (m n : ℕ) → IsChainJudged judge date certificates (Ok m) → IsChainJudged judge date certificates (Ok n) → m ≡ n
+one_count : (judge : Judge) (date : GeneralizedTime) (certificates : List KeptCertificate) (m n : ℕ) → IsChainJudged judge date certificates (Ok m)
+    → IsChainJudged judge date certificates (Ok n) → m ≡ n
 one_count judge date [] m n a b = absurd a
 one_count judge date (checked ∷ parents) m n a b = a.0 ∙ sym b.0
 
@@ -94,7 +96,8 @@ module _ (unbroken : (judge : Judge) (checks : ChainChecks) (checked : KeptCerti
       not_both judge date parts.0 count e parts.2
       (subst (λ (cs : List KeptCertificate). IsChainJudged judge date cs (Err e)) (same_certificates judged.0 parts.0 (judged.1 ∙ sym parts.1)) judged.2)
 
-  same_count : (judge : Judge) (date : GeneralizedTime) (octets : List (List ℕ)) (m n : ℕ) → IsChainAnswer judge date octets (Ok m) → IsChainAnswer judge date octets (Ok n) → m ≡ n
+  same_count : (judge : Judge) (date : GeneralizedTime) (octets : List (List ℕ)) (m n : ℕ) → IsChainAnswer judge date octets (Ok m)
+      → IsChainAnswer judge date octets (Ok n) → m ≡ n
   same_count judge date octets m n a b =
       let x = accepted_parts judge date octets m a in
       let y = accepted_parts judge date octets n b in
@@ -108,7 +111,8 @@ module _ (unbroken : (judge : Judge) (checks : ChainChecks) (checked : KeptCerti
   one_name judge date octets e f (inl a) (inr b) = inl (unread_for_memory octets b.0 e b.1 a)
   one_name judge date octets e f (inr a) (inl b) = inr (inl (unread_for_memory octets a.0 f a.1 b))
   one_name judge date octets e f (inr a) (inr b) =
-      judged_alike judge date a.0 e f a.2 (subst (λ (cs : List KeptCertificate). IsChainJudged judge date cs (Err f)) (same_certificates b.0 a.0 (b.1 ∙ sym a.1)) b.2)
+      judged_alike judge date a.0 e f a.2
+      (subst (λ (cs : List KeptCertificate). IsChainJudged judge date cs (Err f)) (same_certificates b.0 a.0 (b.1 ∙ sym a.1)) b.2)
 
   refused_alike : (e f : CertError) (result : Result Report Stop) → IsNamedAlike e f → IsReported (OfChain (Err e)) result
       → (IsOutOfMemory (OfChain (Err f)) → ⊥) → IsReported (OfChain (Err f)) result
@@ -123,10 +127,12 @@ module _ (unbroken : (judge : Judge) (checks : ChainChecks) (checked : KeptCerti
   given_chain judge date octets (Ok m) (Ok n) result h is also =
       GivesReport-reported (OfChain (Ok n)) result (subst (λ (k : ℕ). IsReported (OfChain (Ok k)) result) (same_count judge date octets m n is also) h)
   given_chain judge date octets (Ok m) (Err f) result h is also = λ other. absurd (other (wants f (refused_is_memory judge date octets m f is also)))
-  given_chain judge date octets (Err e) (Ok n) result h is also = λ other. out_of_memory (OfChain (Err e)) (OfChain (Ok n)) result (wants e (refused_is_memory judge date octets n e also is)) h
+  given_chain judge date octets (Err e) (Ok n) result h is also =
+      λ other. out_of_memory (OfChain (Err e)) (OfChain (Ok n)) result (wants e (refused_is_memory judge date octets n e also is)) h
   given_chain judge date octets (Err e) (Err f) result h is also = λ other. refused_alike e f result (one_name judge date octets e f is also) h other
 
-  given_each : (judge : Judge) (date : GeneralizedTime) (octets : List (List ℕ)) (a : Result ℕ CertError) (result : Result Report Stop) → IsReported (OfChain a) result
+  given_each : (judge : Judge) (date : GeneralizedTime) (octets : List (List ℕ)) (a : Result ℕ CertError) (result : Result Report Stop)
+      → IsReported (OfChain a) result
       → IsChainAnswer judge date octets a → (b : Answer) → IsCertificateAnswer judge date octets b → GivesReport b result
   given_each judge date octets a result h is (OfSignature b) also = absurd also
   given_each judge date octets a result h is (OfChain b) also = given_chain judge date octets a b result h is also

@@ -28,12 +28,14 @@ the_path judge date checked parents path =
       subst (λ (ps : List KeptCertificate). IsOfType (last_of checked ps).elements types.Root) same (path.rooted refl),
     )
 
-module _ (words : List (List ℕ)) (shelf shelf_now : ShelfState) (held held_now : Option (List ℕ)) (table : List ℕ) (date : GeneralizedTime) (names : List (List ℕ))
+module _ (words : List (List ℕ)) (shelf shelf_now : ShelfState) (held held_now : Option (List ℕ)) (table : List ℕ) (date : GeneralizedTime)
+    (names : List (List ℕ))
     (asked : AsksFor words (Chain table date names)) (text : List ℕ) (rows : List VerdictRow) (octets : List (List ℕ))
     (table_file : IsWholeFile shelf.files table text) (certificate_files : AreWholeFiles shelf.files names octets)
     (given : HandsOut (length text + total_length octets) shelf shelf_now) (is_table : IsTable text rows) where
   of_certificates : (count : ℕ) (certificates : List KeptCertificate) → AreKeptCertificates octets certificates
-      → IsChainJudged (verdict_of rows) date certificates (Ok count) → Appends held (parents_line count) held_now → IsVouchedChain words shelf shelf_now held held_now
+      → IsChainJudged (verdict_of rows) date certificates (Ok count) → Appends held (parents_line count) held_now
+      → IsVouchedChain words shelf shelf_now held held_now
   of_certificates count [] are judged written = absurd judged
   of_certificates count (checked ∷ parents) are judged written =
       let path = the_path (verdict_of rows) date checked parents (judged.1.chained refl) in record {
@@ -57,6 +59,7 @@ module _ (words : List (List ℕ)) (shelf shelf_now : ShelfState) (held held_now
         rooted = path.1;
       }
 
-  pub vouched_chain : (count : ℕ) → IsChainAnswer (verdict_of rows) date octets (Ok count) → Appends held (parents_line count) held_now → IsVouchedChain words shelf shelf_now held held_now
+  pub vouched_chain : (count : ℕ) → IsChainAnswer (verdict_of rows) date octets (Ok count) → Appends held (parents_line count) held_now
+      → IsVouchedChain words shelf shelf_now held held_now
   vouched_chain count (inl unread) written = absurd unread
   vouched_chain count (inr judged) written = of_certificates count judged.0 judged.1 judged.2 written

@@ -23,12 +23,14 @@ use Rattle.picky_check.specs.Words.{Basic, Check, AsksFor}
 same_hash : (a b : List ℕ) → Some a ≡ Some b → b ≡ a
 same_hash a b is = cc
 
-of_hash : (judge : Judge) (f : SignedDataElements) (hash : List ℕ) (a : Accepted) (h : IsBasicallyVouched judge (Some hash) f a) → VouchesFor judge f hash h.place
+of_hash : (judge : Judge) (f : SignedDataElements) (hash : List ℕ) (a : Accepted) (h : IsBasicallyVouched judge (Some hash) f a)
+    → VouchesFor judge f hash h.place
 of_hash judge f hash a h = subst (λ (x : List ℕ). VouchesFor judge f x h.place) (same_hash hash h.hash h.given) h.vouches
 
 module _ (words : List (List ℕ)) (shelf shelf_now : ShelfState) (signature table hash : List ℕ) (octets text : List ℕ) (rows : List VerdictRow)
     (signature_file : IsWholeFile shelf.files signature octets) (table_file : IsWholeFile shelf.files table text)
-    (lists : List (List ℕ)) (given : HandsOut (length octets + length text + total_length lists) shelf shelf_now) (is_table : IsTable text rows) (accepted : Accepted) where
+    (lists : List (List ℕ)) (given : HandsOut (length octets + length text + total_length lists) shelf shelf_now) (is_table : IsTable text rows)
+    (accepted : Accepted) where
   module _ (one_signed_data : (o : List ℕ) (f g : SignedDataElements) → HasSignedData o f → HasSignedData o g → f ≡ g)
       (held held_now : Option (List ℕ)) (written : Appends held (accepted_line accepted) held_now) where
     of_file : (f : SignedDataElements) → HasSignedData octets f → IsBasicallyVouched (verdict_of rows) (Some hash) f accepted
@@ -58,7 +60,8 @@ module _ (words : List (List ℕ)) (shelf shelf_now : ShelfState) (signature tab
           rows = rows;
           signed_data = answer.0;
           accepted = accepted;
-          vouched = subst (λ (l : List (List ℕ)). IsVouchedFile signature table hash l shelf shelf_now rows answer.0 accepted) none (of_file answer.0 answer.1 (answer.2.basic refl));
+          vouched = subst (λ (l : List (List ℕ)). IsVouchedFile signature table hash l shelf shelf_now rows answer.0 accepted) none
+              (of_file answer.0 answer.1 (answer.2.basic refl));
           pathless = nothing_more.0;
           unexcused = nothing_more.1;
           written = written;

@@ -41,7 +41,8 @@ record IsGiven (files : Option Files) (judge : Judge) (policy : Option (Bor Cert
   pub answer : IsAnswer judge (policy list) octets (Ok a)
 
 given_list : (files : Option Files) (judge : Judge) (policy : Option (Bor CertificateTrustList) → Policy) (octets : List ℕ) (a : Accepted)
-    (asked : Option AskedList) (lists : List (List ℕ)) → AreWholeFiles files (list_files asked) lists → IsListAnswer judge policy octets lists (OfSignature (Ok a))
+    (asked : Option AskedList) (lists : List (List ℕ)) → AreWholeFiles files (list_files asked) lists
+    → IsListAnswer judge policy octets lists (OfSignature (Ok a))
     → IsGiven files judge policy octets a asked lists
 given_list files judge policy octets a None [] are h = record { list = None; given = (refl, refl); answer = h.is }
 given_list files judge policy octets a None (list ∷ lists) are h = absurd are
@@ -76,9 +77,11 @@ module _ (one_signed_data : (octets : List ℕ) (f g : SignedDataElements) → H
   of_basic signature table hash (octets ∷ []) rows a asked are is_table is_answer given written = absurd are.1
   of_basic signature table hash (octets ∷ text ∷ more ∷ others) rows a asked are is_table is_answer given written = absurd are.1.1
   of_basic signature table hash (octets ∷ text ∷ []) rows a asked are is_table is_answer given written =
-      vouched_basic words shelf shelf_now signature table hash octets text rows are.0 are.1.0 [] (both octets text [] given) is_table a one_signed_data held held_now written refl asked is_answer.is
+      vouched_basic words shelf shelf_now signature table hash octets text rows are.0 are.1.0 [] (both octets text [] given)
+      is_table a one_signed_data held held_now written refl asked is_answer.is
 
-  of_check : (signature table hash : List ℕ) (date : GeneralizedTime) (options : CheckOptions) (contents : List (List ℕ)) (rows : List VerdictRow) (a : Accepted)
+  of_check : (signature table hash : List ℕ) (date : GeneralizedTime) (options : CheckOptions) (contents : List (List ℕ)) (rows : List VerdictRow)
+      (a : Accepted)
       → AsksFor words (Check signature table hash date options) → AreWholeFiles shelf.files (files_of (Check signature table hash date options)) contents
       → IsTable (table_in (Check signature table hash date options) contents) rows
       → IsAnswerTo (verdict_of rows) (Check signature table hash date options) contents (OfSignature (Ok a))
@@ -87,7 +90,8 @@ module _ (one_signed_data : (octets : List ℕ) (f g : SignedDataElements) → H
   of_check signature table hash date options (octets ∷ []) rows a asked are is_table is_answer given written = absurd are.1
   of_check signature table hash date options (octets ∷ text ∷ lists) rows a asked are is_table is_answer given written =
       let list = given_list shelf.files (verdict_of rows) (check_policy hash date options) octets a options.list lists are.1.1 is_answer in
-      vouched_check words shelf shelf_now signature table hash octets text rows are.0 are.1.0 lists (both octets text lists given) is_table a one_signed_data held held_now written
+      vouched_check words shelf shelf_now signature table hash octets text rows are.0 are.1.0 lists (both octets text lists given)
+      is_table a one_signed_data held held_now written
       date options asked list.list list.given list.answer
 
   of_chain : (table : List ℕ) (date : GeneralizedTime) (names contents : List (List ℕ)) (rows : List VerdictRow) (count : ℕ)
@@ -97,7 +101,8 @@ module _ (one_signed_data : (octets : List ℕ) (f g : SignedDataElements) → H
       → HandsOut (total_length contents) shelf shelf_now → Appends held (parents_line count) held_now → IsVouchedChain words shelf shelf_now held held_now
   of_chain table date names [] rows count asked are is_table is_answer given written = absurd are
   of_chain table date names (text ∷ octets) rows count asked are is_table is_answer given written =
-      vouched_chain words shelf shelf_now held held_now table date names asked text rows octets are.0 are.1 (first_and_others text octets given) is_table count is_answer written
+      vouched_chain words shelf shelf_now held held_now table date names asked text rows octets are.0 are.1 (first_and_others text octets given)
+      is_table count is_answer written
 
   -- an answer to one job is none to another
   no_chain_for_basic : (signature table hash : List ℕ) (contents : List (List ℕ)) (rows : List VerdictRow) (given : Result ℕ CertError)
@@ -113,14 +118,17 @@ module _ (one_signed_data : (octets : List ℕ) (f g : SignedDataElements) → H
   no_chain_for_check signature table hash date options (octets ∷ text ∷ list ∷ others) rows given (inl unread) = unread
   no_chain_for_check signature table hash date options (octets ∷ text ∷ list ∷ others) rows given (inr read) = read.2
 
-  no_signature_for_chain : (table : List ℕ) (date : GeneralizedTime) (names contents : List (List ℕ)) (rows : List VerdictRow) (given : Result Accepted CheckError)
+  no_signature_for_chain : (table : List ℕ) (date : GeneralizedTime) (names contents : List (List ℕ)) (rows : List VerdictRow)
+      (given : Result Accepted CheckError)
       → IsAnswerTo (verdict_of rows) (Chain table date names) contents (OfSignature given) → ⊥
   no_signature_for_chain table date names [] rows given is_answer = is_answer
   no_signature_for_chain table date names (text ∷ octets) rows given is_answer = is_answer
 
   module _ (contents : List (List ℕ)) (rows : List VerdictRow) (given : HandsOut (total_length contents) shelf shelf_now) where
-    vouched_for_job : (job : Job) (answer : Answer) → AsksFor words job → AreWholeFiles shelf.files (files_of job) contents → IsTable (table_in job contents) rows
-        → IsAnswerTo (verdict_of rows) job contents answer → status_of answer ≡ 0 → Appends held (report_line answer) held_now → IsVouched words shelf shelf_now held held_now
+    vouched_for_job : (job : Job) (answer : Answer) → AsksFor words job → AreWholeFiles shelf.files (files_of job) contents
+        → IsTable (table_in job contents) rows
+        → IsAnswerTo (verdict_of rows) job contents answer → status_of answer ≡ 0 → Appends held (report_line answer) held_now
+        → IsVouched words shelf shelf_now held held_now
     vouched_for_job (Basic signature table hash) (OfSignature (Ok a)) asked are is_table is_answer zero written =
         inl (of_basic signature table hash contents rows a asked are is_table is_answer given written)
     vouched_for_job (Basic signature table hash) (OfSignature (Err e)) asked are is_table is_answer zero written = absurd (omega arith)
@@ -142,5 +150,6 @@ module _ (one_signed_data : (octets : List ℕ) (f g : SignedDataElements) → H
   vouched_for line h zero written =
       let read = h.2 in
       let returned = read.is_answered.is_answer in
-      vouched_for_job read.is_answered.contents returned.rows read.given h.0 returned.answer h.1 read.is_answered.are_files returned.is_table returned.is_answer (sym returned.status ∙ zero)
+      vouched_for_job read.is_answered.contents returned.rows read.given h.0 returned.answer h.1 read.is_answered.are_files returned.is_table returned.is_answer
+      (sym returned.status ∙ zero)
       (subst (λ (text : List ℕ). Appends held text held_now) returned.text written)

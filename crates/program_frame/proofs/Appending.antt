@@ -1,5 +1,6 @@
 -- Appending a text piece by piece.
-use Rattle.std.proofs.Common.{◌≡◌, ℕ, ◌+◌, ◌-◌, List, [], ◌++◌, length, take, drop, Option, Some, sym, ◌∙◌, ap, arith, subst, append_assoc, append-nil, length-drop, length-append, ◌≤◌}
+use Rattle.std.proofs.Common.{◌≡◌, ℕ, ◌+◌, ◌-◌, List, [], ◌++◌, length, take, drop, Option, Some, sym, ◌∙◌}
+use Rattle.std.proofs.Common.{ap, arith, subst, append_assoc, append-nil, length-drop, length-append, ◌≤◌}
 use Rattle.std.proofs.lemmas.List.{take_all, length-take-le}
 use Rattle.std.proofs.Math.Seq.{take-add}
 use Rattle.program_frame.specs.Sink.{SinkState, Appends, Keeps, Lowers, IsFull, HasCapacity, KeepsCapacity}

@@ -19,7 +19,8 @@ spelled word =
     get_or word 0 0 ∷ get_or word 1 0 ∷ get_or word 2 0 ∷ get_or word 3 0 ∷ get_or word 5 0 ∷ get_or word 6 0 ∷ get_or word 8 0 ∷ get_or word 9 0
     ∷ 48 ∷ 48 ∷ 48 ∷ 48 ∷ 48 ∷ 48 ∷ 90 ∷ []
 
-pub day_is : (word : List ℕ) (t : GeneralizedTime) → length word ≡ 10 → get_or word 4 0 ≡ 45 → get_or word 7 0 ≡ 45 → (spelled word ≡ generalized_contents t) ↔ IsDateWord word t
+pub day_is : (word : List ℕ) (t : GeneralizedTime) → length word ≡ 10 → get_or word 4 0 ≡ 45 → get_or word 7 0 ≡ 45
+    → (spelled word ≡ generalized_contents t) ↔ IsDateWord word t
 day_is (a ∷ b ∷ c ∷ d ∷ e ∷ f ∷ g ∷ h ∷ i ∷ j ∷ []) t many first second = (
   λ same. inl (
     cc,

@@ -74,7 +74,8 @@ IsInquiry-memory before after question = record {
 }
 
 module _ (before after : ShelfState) (question : Question) where
-  all_short : (contents : List (List ℕ)) → AreWholeFiles before.files question.files contents → IsSome before.files → FindsLongFile before after question.files → ⊥
+  all_short : (contents : List (List ℕ)) → AreWholeFiles before.files question.files contents → IsSome before.files
+      → FindsLongFile before after question.files → ⊥
   all_short contents whole t l = none_long before.files question.files contents l.ahead l.behind l.name whole l.names_are (l.is_long t)
 
   -- if the files were not all read

@@ -5,7 +5,8 @@ use Rattle.asn1_types.specs.declared.generalized_time.GeneralizedTime.{Generaliz
 use Rattle.program_frame.specs.DateWord.{IsDateWord}
 use Rattle.program_frame.specs.Options as option
 use Rattle.program_frame.specs.ListOption.{AskedList}
-use Rattle.program_frame.specs.Options.{AreOptions, AreWordsOf, BeginsWithOption, CheckOption, CheckOptions, IsAbsent, AreOnce, no_options, with_options, with_option}
+use Rattle.program_frame.specs.Options.{AreOptions, AreWordsOf, BeginsWithOption, CheckOption, CheckOptions}
+use Rattle.program_frame.specs.Options.{IsAbsent, AreOnce, no_options, with_options, with_option}
 
 -- ---- the first option, and the later ones
 
@@ -31,11 +32,19 @@ same_first : (x y : List ℕ) (xs ys : List (List ℕ)) → x ∷ xs ≡ y ∷ y
 same_first x y xs ys are = cc
 
 -- the first of the words is that date
-pub until_first : (word : List ℕ) (words behind rest : List (List ℕ)) (o : CheckOption) → words ≡ word ∷ behind → (h : IsUntil o words rest) → IsDateWord word h.date
-until_first word words behind rest o are h = let same : h.word ≡ word = same_first h.word word rest behind (sym h.are_words ∙ are) in subst (λ (w : List ℕ). IsDateWord w h.date) same h.is_date
+pub until_first : (word : List ℕ) (words behind rest : List (List ℕ)) (o : CheckOption) → words ≡ word ∷ behind → (h : IsUntil o words rest)
+    → IsDateWord word h.date
+until_first word words behind rest o are h = let same : h.word ≡ word = same_first h.word word rest behind (sym h.are_words ∙ are) in
+    subst (λ (w : List ℕ). IsDateWord w h.date) same h.is_date
 
 pub until_is : (o : CheckOption) (words rest : List (List ℕ)) → BeginsWithOption o (codes "--until" ∷ words) rest → IsUntil o words rest
-until_is (option.Until date) words rest begins = record { date = date; word = begins.0; is = refl; are_words = same_behind (codes "--until") words (begins.0 ∷ rest) begins.1; is_date = begins.2 }
+until_is (option.Until date) words rest begins = record {
+  date = date;
+  word = begins.0;
+  is = refl;
+  are_words = same_behind (codes "--until") words (begins.0 ∷ rest) begins.1;
+  is_date = begins.2;
+}
 until_is option.NoBefore words rest begins = absurd cc
 until_is option.NoAfter words rest begins = absurd cc
 until_is option.NoChain words rest begins = absurd cc
@@ -78,7 +87,8 @@ split_options word words o (first ∷ others) are once is = record {
 pub split : (word : List ℕ) (words : List (List ℕ)) (o : CheckOptions) → AreOptions (word ∷ words) o → AreSplit (word ∷ words) o
 split word words o h = split_options word words o h.options h.are_words h.once h.is
 
-pub joined : (words rest : List (List ℕ)) (first : CheckOption) (others o : CheckOptions) → BeginsWithOption first words rest → AreOptions rest others → IsAbsent first others
+pub joined : (words rest : List (List ℕ)) (first : CheckOption) (others o : CheckOptions) → BeginsWithOption first words rest → AreOptions rest others
+    → IsAbsent first others
     → o ≡ with_option first others → AreOptions words o
 joined words rest first others o begins h absent is = record {
   options = first ∷ h.options;
@@ -102,10 +112,22 @@ pub record AreTogether (a b c : CheckOptions) : Type 0 where
   pub list : Joins {A = Option AskedList} None a.list b.list c.list
 
 pub nothing_ahead : (o : CheckOptions) → AreTogether no_options o o
-nothing_ahead o = record { until = inl (refl, refl); no_before = inl (refl, refl); no_after = inl (refl, refl); no_chain = inl (refl, refl); list = inl (refl, refl) }
+nothing_ahead o = record {
+  until = inl (refl, refl);
+  no_before = inl (refl, refl);
+  no_after = inl (refl, refl);
+  no_chain = inl (refl, refl);
+  list = inl (refl, refl);
+}
 
 pub nothing_behind : (o : CheckOptions) → AreTogether o no_options o
-nothing_behind o = record { until = inr (refl, refl); no_before = inr (refl, refl); no_after = inr (refl, refl); no_chain = inr (refl, refl); list = inr (refl, refl) }
+nothing_behind o = record {
+  until = inr (refl, refl);
+  no_before = inr (refl, refl);
+  no_after = inr (refl, refl);
+  no_chain = inr (refl, refl);
+  list = inr (refl, refl);
+}
 
 joined_ahead : {A : Type 0} (none b c : A) → Joins none none b c → c ≡ b
 joined_ahead none b c (inl h) = h.1
@@ -115,7 +137,8 @@ joined_behind : {A : Type 0} (none a c : A) → Joins none a none c → c ≡ a
 joined_behind none a c (inl h) = h.1 ∙ sym h.0
 joined_behind none a c (inr h) = h.1
 
-same_options : (a b : CheckOptions) → a.until ≡ b.until → a.no_before ≡ b.no_before → a.no_after ≡ b.no_after → a.no_chain ≡ b.no_chain → a.list ≡ b.list → a ≡ b
+same_options : (a b : CheckOptions) → a.until ≡ b.until → a.no_before ≡ b.no_before → a.no_after ≡ b.no_after → a.no_chain ≡ b.no_chain
+    → a.list ≡ b.list → a ≡ b
 same_options a b until before after chain list = λ i. record { until = until i; no_before = before i; no_after = after i; no_chain = chain i; list = list i }
 
 pub all_behind : (b c : CheckOptions) → AreTogether no_options b c → c ≡ b
@@ -218,7 +241,8 @@ module _ (words rest : List (List ℕ)) (read : CheckOptions) (h : AreRead words
     together all is = subst (λ (o : CheckOptions). AreTogether read o all) (next all is).is (h.left all is).2
 
     -- if the rest begins with no option
-    pub none_next : ((first : CheckOption) (others : List (List ℕ)) → BeginsWithOption first (word ∷ behind) others → ⊥) → (all : CheckOptions) → AreOptions words all → ⊥
+    pub none_next : ((first : CheckOption) (others : List (List ℕ)) → BeginsWithOption first (word ∷ behind) others → ⊥) → (all : CheckOptions)
+        → AreOptions words all → ⊥
     none_next none all is = let n = next all is in none n.first n.rest n.begins
 
     module _ (first : CheckOption) (others : List (List ℕ))

@@ -1,5 +1,6 @@
 -- Reading a file piece by piece.
-use Rattle.std.proofs.Common.{◌≡◌, ℕ, ◌+◌, ◌<◌, inl, inr, List, [], ◌++◌, length, take, drop, Option, Some, refl, sym, ◌∙◌, ap, arith, append_assoc, append-nil, length-append}
+use Rattle.std.proofs.Common.{◌≡◌, ℕ, ◌+◌, ◌<◌, inl, inr, List, [], ◌++◌, length, take, drop, Option}
+use Rattle.std.proofs.Common.{Some, refl, sym, ◌∙◌, ap, arith, append_assoc, append-nil, length-append}
 use Rattle.std.proofs.lemmas.List.{take-append-drop}
 use Rattle.der_core.specs.Counts.{GoesOn, HasRisen, RisesBy}
 use Rattle.program_frame.specs.Limits.{longest_file}
@@ -17,7 +18,8 @@ pub reads_nothing : (files : Option Files) (name : List ℕ) (rest : Option (Lis
     → IsPicked files name rest → HasRead files name [] rest
 reads_nothing files name rest picked = record { file = picked.0; named = picked.1; left = picked.0; rest_is = picked.2; whole = refl }
 
-pub reads_more : (files : Option Files) (name octets more piece : List ℕ) (n : ℕ) (rest after : Option (List ℕ)) (read : HasRead files name octets rest) → Moves n read.left piece after → more ≡ take n piece → HasRead files name (octets ++ more) after
+pub reads_more : (files : Option Files) (name octets more piece : List ℕ) (n : ℕ) (rest after : Option (List ℕ)) (read : HasRead files name octets rest)
+    → Moves n read.left piece after → more ≡ take n piece → HasRead files name (octets ++ more) after
 reads_more files name octets more piece n rest after read moves is = record {
   file = read.file;
   named = read.named;
@@ -31,7 +33,8 @@ reads_more files name octets more piece n rest after read moves is = record {
 }
 
 -- at the end the file is what was read
-pub reads_all : (files : Option Files) (name octets piece : List ℕ) (n : ℕ) (rest after : Option (List ℕ)) (read : HasRead files name octets rest) → Moves n read.left piece after → n ≡ 0 → 0 < length piece → file_of files name ≡ Some octets
+pub reads_all : (files : Option Files) (name octets piece : List ℕ) (n : ℕ) (rest after : Option (List ℕ)) (read : HasRead files name octets rest)
+    → Moves n read.left piece after → n ≡ 0 → 0 < length piece → file_of files name ≡ Some octets
 reads_all files name octets piece n rest after read moves none some =
     read.named ∙ ap Some (sym read.whole ∙ ap (λ (l : List ℕ). octets ++ l) (moves.none none some)
     ∙ append-nil octets)

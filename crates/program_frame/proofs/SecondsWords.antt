@@ -29,7 +29,8 @@ module _ {E : Type 0} (word : List ℕ) (plain : BeginsWithDigit word) where
       let small = digits_value_short own word 18 is.digits.1 is.short in
       h (is.digits.1, is.digits.0, omega (arith, small))
 
-  pub said : (r : Result ℤ E) (o : Option ℤ) → ParsesSigned w64 10 word r → o ≡ result_ok r → MatchOption o ((seconds : ℤ) → IsSecondsWord word seconds → ⊥) (IsSecondsWord word)
+  pub said : (r : Result ℤ E) (o : Option ℤ) → ParsesSigned w64 10 word r → o ≡ result_ok r
+      → MatchOption o ((seconds : ℤ) → IsSecondsWord word seconds → ⊥) (IsSecondsWord word)
   said r o read is = subst (λ (x : Option ℤ). MatchOption x ((seconds : ℤ) → IsSecondsWord word seconds → ⊥) (IsSecondsWord word)) (sym is) (said_by r read)
 
 -- a word has one number

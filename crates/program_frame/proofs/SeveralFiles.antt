@@ -49,7 +49,8 @@ pub not_missing : (files : Option Files) (name octets : List ℕ) → IsWholeFil
 not_missing files name octets whole m = no_file (file_of files name) octets m.none (whole.as_exposed m.exposed)
 
 -- files of a shelf that exposes the same ones
-pub whole_along : (files others : Option Files) (names contents : List (List ℕ)) → files ≡ others → AreWholeFiles files names contents → AreWholeFiles others names contents
+pub whole_along : (files others : Option Files) (names contents : List (List ℕ)) → files ≡ others → AreWholeFiles files names contents
+    → AreWholeFiles others names contents
 whole_along files others names contents same = subst (λ (f : Option Files). AreWholeFiles f names contents) same
 
 -- ---- one file, and the later ones
@@ -75,7 +76,8 @@ module _ (before between after : ShelfState) (name : List ℕ) (names : List (Li
   there_first : (ahead behind : List (List ℕ)) (other : List ℕ) → name ∷ names ≡ ahead ++ other ∷ behind
       → IsLongFile before.files other → HasFiles before.files ahead → IsSome (file_of before.files name)
   there_first [] behind other are long there =
-      subst (λ (n : List ℕ). IsSome (file_of before.files n)) (sym (first_is name other names behind are)) (some_there (file_of before.files other) long.0 long.1)
+      subst (λ (n : List ℕ). IsSome (file_of before.files n)) (sym (first_is name other names behind are))
+      (some_there (file_of before.files other) long.0 long.1)
   there_first (one ∷ ahead) behind other are long there =
       subst (λ (n : List ℕ). IsSome (file_of before.files n)) (sym (first_is name one names (ahead ++ other ∷ behind) are))
       (All-head (λ (n : List ℕ). IsSome (file_of before.files n)) one ahead there)
@@ -118,7 +120,8 @@ module _ (before between after : ShelfState) (name : List ℕ) (names : List (Li
         absurd (not_missing before.files name octets whole (subst (IsMissingFile before.files) (sym (first_is name other names behind are)) m))
     long_behind (one ∷ ahead) behind other are m l =
         let long = subst (λ (f : Option Files). HasLongFile f ahead) same
-        (unread.missing ahead behind other (others_are name one names (ahead ++ other ∷ behind) are) (subst (λ (f : Option Files). IsMissingFile f other) (sym same) m) l) in
+        (unread.missing ahead behind other (others_are name one names (ahead ++ other ∷ behind) are)
+        (subst (λ (f : Option Files). IsMissingFile f other) (sym same) m) l) in
         (suc long.0, long.1, omega (arith, long.2), long.3, long.4)
 
     quiet_behind : (ahead behind : List (List ℕ)) (other : List ℕ) → name ∷ names ≡ ahead ++ other ∷ behind

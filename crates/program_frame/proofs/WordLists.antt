@@ -6,7 +6,8 @@ use Rattle.std.proofs.lemmas.List.{take_all}
 abbrev pub behind : {W : Type 0} → List W → List W
 behind words = take (length words - 1) (drop 1 words)
 
-pub words_are : {W : Type 0} (text : W → List ℕ) (words : List W) (first : W) (command : List ℕ) → 1 ≤ length words → first ≡ get_or words 0 first → text first ≡ command
+pub words_are : {W : Type 0} (text : W → List ℕ) (words : List W) (first : W) (command : List ℕ) → 1 ≤ length words → first ≡ get_or words 0 first
+    → text first ≡ command
     → map text words ≡ command ∷ map text (behind words)
 words_are text [] first command some is said = absurd (omega arith)
 words_are text (word ∷ words) first command some is said =

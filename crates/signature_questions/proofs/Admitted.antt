@@ -49,7 +49,8 @@ module _ (a b : Judge) where
         h.accepted;
   }
 
-  pub linked_chain : (w : Window) (checked : KeptCertificate) (parents : List KeptCertificate) → Admits (IsOfChain checked parents) a b → IsLinkedChain a w checked parents → IsLinkedChain b w checked parents
+  pub linked_chain : (w : Window) (checked : KeptCertificate) (parents : List KeptCertificate) → Admits (IsOfChain checked parents) a b
+      → IsLinkedChain a w checked parents → IsLinkedChain b w checked parents
   linked_chain w checked parents admits h = λ before after parent are.
       let link = h before after parent are in record {
         authority = link.authority;
@@ -59,7 +60,8 @@ module _ (a b : Judge) where
         signed = signed_by _ _ (λ q asked. admits q (of_chain checked parents before after parent are q asked)) link.signed;
       }
 
-  linked_at : (w : Window) (bag : List CertificateElements) (checked : KeptCertificate) (places : List ℕ) → Admits (IsOfLinks bag checked.elements places) a b → AreLinkedAt a w bag checked places → AreLinkedAt b w bag checked places
+  linked_at : (w : Window) (bag : List CertificateElements) (checked : KeptCertificate) (places : List ℕ) → Admits (IsOfLinks bag checked.elements places) a b
+      → AreLinkedAt a w bag checked places → AreLinkedAt b w bag checked places
   linked_at w bag checked places admits h = record {
     parents = h.parents;
     stand = h.stand;
@@ -154,7 +156,8 @@ module _ (a b : Judge) where
       listed = h.listed;
     }
 
-    pub reason : (policy : Policy) (bag : List CertificateElements) (c : CertificateElements) (excuse : Excuse) → HasReason a policy f bag c excuse → HasReason b policy f bag c excuse
+    pub reason : (policy : Policy) (bag : List CertificateElements) (c : CertificateElements) (excuse : Excuse) → HasReason a policy f bag c excuse
+        → HasReason b policy f bag c excuse
     reason policy bag c excuses.None h = h
     reason policy bag c excuses.Bag h = h
     reason policy bag c excuses.Token h = (h.0, h.1, stamped policy h.2)

@@ -61,7 +61,8 @@ same_behind : {E : Type 0} (front rules others : List (E → Type 0)) → AreSam
 same_behind [] rules others h = h
 same_behind (rule ∷ front) rules others h = (same rule, same_behind front rules others h)
 
-same_before : {E : Type 0} (fronts others rules more : List (E → Type 0)) → AreSame fronts others → AreSame rules more → AreSame (fronts ++ rules) (others ++ more)
+same_before : {E : Type 0} (fronts others rules more : List (E → Type 0)) → AreSame fronts others → AreSame rules more
+    → AreSame (fronts ++ rules) (others ++ more)
 same_before [] [] rules more h k = k
 same_before [] (other ∷ others) rules more h k = absurd h
 same_before (front ∷ fronts) [] rules more h k = absurd h
@@ -171,7 +172,8 @@ unlinked_at a b w bag checked places agree e h =
       parent = h.parent;
       stands = h.stands;
       linked = linked_chain a b w checked h.below
-          (admitted _ a b (λ q asked. agree q (there q (of_front bag checked.elements h.before (h.place ∷ h.after) q (of_places bag checked h.before h.below h.stand q asked))))) h.linked;
+          (admitted _ a b (λ q asked.
+          agree q (there q (of_front bag checked.elements h.before (h.place ∷ h.after) q (of_places bag checked h.before h.below h.stand q asked))))) h.linked;
       broken = first_broken
           (link_rules a w (length h.below) h.parent (last_of checked h.below))
           (link_rules b w (length h.below) h.parent (last_of checked h.below))
@@ -292,8 +294,10 @@ module _ (f : SignedDataElements) where
     has = h.has;
     stamping_bag = h.stamping_bag;
     stamping = h.stamping;
-    broken = first_broken (stamp_rules a policy h.stamping_bag) (stamp_rules b policy h.stamping_bag)
-        ((unlinked_stamp a b agree h.t h.stamping_bag h.has h.stamping, unlinked_stamp b a (turned _ a b agree) h.t h.stamping_bag h.has h.stamping), (same _, tt))
+    broken = first_broken (stamp_rules a policy h.stamping_bag) (stamp_rules b policy h.stamping_bag) (
+      (unlinked_stamp a b agree h.t h.stamping_bag h.has h.stamping, unlinked_stamp b a (turned _ a b agree) h.t h.stamping_bag h.has h.stamping),
+      (same _, tt),
+    )
         e h.broken;
   }
 
@@ -394,5 +398,6 @@ pub data_answered : (a b : Judge) (policy : Policy) (f : SignedDataElements) (an
     → MatchResult answer (IsTrusted a policy f) (RefusesAuthenticodeBy (policy_rules a policy f))
     → MatchResult answer (IsTrusted b policy f) (RefusesAuthenticodeBy (policy_rules b policy f))
 data_answered a b policy f (Ok result) agree h = trusted a b f (admitted _ a b agree) policy result h
-data_answered a b policy f (Err e) agree (inl broken) = inl (first_broken (policy_rules a policy f) (policy_rules b policy f) (policy_same f a b agree policy) e broken)
+data_answered a b policy f (Err e) agree (inl broken) =
+    inl (first_broken (policy_rules a policy f) (policy_rules b policy f) (policy_same f a b agree policy) e broken)
 data_answered a b policy f (Err e) agree (inr memory) = inr memory

@@ -17,7 +17,8 @@ first_contents : (s t : List ℕ) (x y : List DerElement) → sequence (Primitiv
 first_contents s t x y e = cc
 
 -- the OID that is read is that of the algorithm
-oid_read : (read : DerElement) (kids : List DerElement) (first : DerElement) (behind : List DerElement) (oid : List ℕ) → read ≡ sequence kids → kids ≡ first ∷ behind → first ≡ Primitive 0x06 oid
+oid_read : (read : DerElement) (kids : List DerElement) (first : DerElement) (behind : List DerElement) (oid : List ℕ) → read ≡ sequence kids
+    → kids ≡ first ∷ behind → first ≡ Primitive 0x06 oid
     → (id : AlgorithmIdentifier) → read ≡ algorithm_identifier id → oid ≡ identifier_contents (oid_of id)
 oid_read read kids first behind oid are begins is id beside =
     first_contents oid (identifier_contents (oid_of id)) behind (option_to_list (kept_option (parameters_of id)))
@@ -31,17 +32,20 @@ module _ (octets : List ℕ) (read element : DerElement) (kept : IsKept octets r
   same : read ≡ element
   same = one_kept octets read element kept (der, is)
 
-  pub unshaped : ((id : AlgorithmIdentifier) → read ≡ algorithm_identifier id → ⊥) → (id : AlgorithmIdentifier) (algorithm : SignatureAlgorithm) → element ≡ algorithm_identifier id → NamesSignature id algorithm → ⊥
+  pub unshaped : ((id : AlgorithmIdentifier) → read ≡ algorithm_identifier id → ⊥) → (id : AlgorithmIdentifier) (algorithm : SignatureAlgorithm)
+      → element ≡ algorithm_identifier id → NamesSignature id algorithm → ⊥
   unshaped none id algorithm beside named = none id (same ∙ beside)
 
-  module _ (kids : List DerElement) (first : DerElement) (behind : List DerElement) (oid : List ℕ) (are : read ≡ sequence kids) (begins : kids ≡ first ∷ behind) (leaf : first ≡ Primitive 0x06 oid) where
+  module _ (kids : List DerElement) (first : DerElement) (behind : List DerElement) (oid : List ℕ) (are : read ≡ sequence kids) (begins : kids ≡ first ∷ behind)
+      (leaf : first ≡ Primitive 0x06 oid) where
     pub unnamed : ((algorithm : SignatureAlgorithm) → signature_identifier algorithm ≡ Some oid → None ≡ Some algorithm)
         → (id : AlgorithmIdentifier) (algorithm : SignatureAlgorithm) → element ≡ algorithm_identifier id → NamesSignature id algorithm → ⊥
     unnamed none id algorithm beside named =
         let contents = oid_read read kids first behind oid are begins leaf id (same ∙ beside) in
         named_nothing algorithm None refl (none algorithm (named ∙ ap (λ (o : List ℕ). Some o) (sym contents)))
 
-    pub named_as : (algorithm : SignatureAlgorithm) → signature_identifier algorithm ≡ Some oid → (fits : (id : AlgorithmIdentifier) × (read ≡ algorithm_identifier id))
+    pub named_as : (algorithm : SignatureAlgorithm) → signature_identifier algorithm ≡ Some oid
+        → (fits : (id : AlgorithmIdentifier) × (read ≡ algorithm_identifier id))
         → (id : AlgorithmIdentifier) × (element ≡ algorithm_identifier id) × NamesSignature id algorithm
     named_as algorithm name (id, shape) =
         (id, sym same ∙ shape, name ∙ ap (λ (o : List ℕ). Some o) (oid_read read kids first behind oid are begins leaf id shape))

@@ -44,20 +44,23 @@ rsa_within (keys.Ec b) bytes is = tt
 rsa_within (keys.Ed b) bytes is = tt
 rsa_within (keys.Mldsa b) bytes is = tt
 
-ec_bits : (k : SubjectKey) (u : ℕ) (bits : List ℕ) → kind_of_key k ≡ kinds.Ec → subject_public_key k ≡ Primitive 0x03 (u ∷ bits) → (b : BitString) × (k ≡ keys.Ec b) × (bits ≡ payload_of b)
+ec_bits : (k : SubjectKey) (u : ℕ) (bits : List ℕ) → kind_of_key k ≡ kinds.Ec → subject_public_key k ≡ Primitive 0x03 (u ∷ bits)
+    → (b : BitString) × (k ≡ keys.Ec b) × (bits ≡ payload_of b)
 ec_bits (keys.Rsa key) u bits kind is = absurd cc
 ec_bits (keys.Ec b) u bits kind is = (b, refl, cc)
 ec_bits (keys.Ed b) u bits kind is = absurd cc
 ec_bits (keys.Mldsa b) u bits kind is = absurd cc
 
-ed_bits : (k : SubjectKey) (u : ℕ) (bits : List ℕ) → kind_of_key k ≡ kinds.Ed → subject_public_key k ≡ Primitive 0x03 (u ∷ bits) → (b : BitString) × (k ≡ keys.Ed b) × (bits ≡ payload_of b)
+ed_bits : (k : SubjectKey) (u : ℕ) (bits : List ℕ) → kind_of_key k ≡ kinds.Ed → subject_public_key k ≡ Primitive 0x03 (u ∷ bits)
+    → (b : BitString) × (k ≡ keys.Ed b) × (bits ≡ payload_of b)
 ed_bits (keys.Rsa key) u bits kind is = absurd cc
 ed_bits (keys.Ec b) u bits kind is = absurd cc
 ed_bits (keys.Ed b) u bits kind is = (b, refl, cc)
 ed_bits (keys.Mldsa b) u bits kind is = absurd cc
 
 -- a key that fits is within limits
-pub within : (algorithm : SignatureAlgorithm) (key : SubjectPublicKeyInfo) (alg : SigAlg) (bytes : List ℕ) → FitsKey algorithm key alg bytes → AreDer (inner_key key.subject_public_key)
+pub within : (algorithm : SignatureAlgorithm) (key : SubjectPublicKeyInfo) (alg : SigAlg) (bytes : List ℕ) → FitsKey algorithm key alg bytes
+    → AreDer (inner_key key.subject_public_key)
 within (RsaPkcs1v15 hash) key alg bytes fits = rsa_within key.subject_public_key bytes fits.1
 within (Ecdsa hash) key alg bytes (curve, signs, is, point) = subst (λ (k : SubjectKey). AreDer (inner_key k)) (sym point.is) tt
 within Ed25519 key alg bytes fits = subst (λ (k : SubjectKey). AreDer (inner_key k)) (sym fits.1.is) tt
@@ -75,10 +78,12 @@ module _ (parts : BorrowedKey) (key : SubjectPublicKeyInfo) (lends : LendsKey pa
   names_it : (kind : KeyKind) → kind_of_key key.subject_public_key ≡ kind → IsTrue (names_kind kind parts.oid.now)
   names_it kind is = subst (λ (k : KeyKind). IsTrue (names_kind k parts.oid.now)) is named
 
-  one_curve : (a b : EcCurve) → at_option parts.parameters ≡ Some (object_identifier_of (curve_identifier a)) → kept_option (parameters_of key.algorithm) ≡ Some (object_identifier_of (curve_identifier b)) → a ≡ b
+  one_curve : (a b : EcCurve) → at_option parts.parameters ≡ Some (object_identifier_of (curve_identifier a))
+      → kept_option (parameters_of key.algorithm) ≡ Some (object_identifier_of (curve_identifier b)) → a ≡ b
   one_curve a b at on = let both = sym at ∙ lends.parameters ∙ on in same_curve a b cc
 
-  pub ec_fits : (hash : HashAlgorithm) (curve : EcCurve) → IsTrue (names_kind kinds.Ec parts.oid.now) → at_option parts.parameters ≡ Some (object_identifier_of (curve_identifier curve)) → curve_for hash ≡ Some curve → FitsKey (Ecdsa hash) key (ecdsa_alg curve) parts.bits.now
+  pub ec_fits : (hash : HashAlgorithm) (curve : EcCurve) → IsTrue (names_kind kinds.Ec parts.oid.now) → at_option parts.parameters
+      ≡ Some (object_identifier_of (curve_identifier curve)) → curve_for hash ≡ Some curve → FitsKey (Ecdsa hash) key (ecdsa_alg curve) parts.bits.now
   ec_fits hash curve is at signs =
       let bits = ec_bits key.subject_public_key lends.unused parts.bits.now (kind_is kinds.Ec is) lends.bits in
       (curve, signs, refl, record { bits = bits.0; is = bits.1; on = sym lends.parameters ∙ at; payload = bits.2 })

@@ -18,7 +18,8 @@ use Rattle.signature_questions.proofs.OneLine.{chain_line_once}
 pub memory_reports : (Is : Line → Type 0) (s : Stop) → s ≡ stops.Memory → Reports Is (Err s)
 memory_reports Is s is = record { reported = tt; low = tt; stopped = is; only = λ line h. is }
 
-pub line_reports : (Is : Line → Type 0) → ((a b : Line) → Is a → Is b → a ≡ b) → (report : Report) → report.status ≤ statuses.refused → Is (line_of report) → Reports Is (Ok report)
+pub line_reports : (Is : Line → Type 0) → ((a b : Line) → Is a → Is b → a ≡ b) → (report : Report) → report.status ≤ statuses.refused → Is (line_of report)
+    → Reports Is (Ok report)
 line_reports Is once report low is = record { reported = is; low = low; stopped = tt; only = λ line h. once (line_of report) line is h }
 
 no_report : (report : Report) (s : Stop) → ◌≡◌ {A = Result Report Stop} (Ok report) (Err s) → ⊥

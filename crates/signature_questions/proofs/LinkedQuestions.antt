@@ -14,7 +14,8 @@ at_parent : (child : KeptCertificate) (before after : List KeptCertificate) (par
 at_parent child [] after parent q asked = inl asked
 at_parent child (first ∷ before) after parent q asked = inr (at_parent first before after parent q asked)
 
-pub of_chain : (child : KeptCertificate) (parents before after : List KeptCertificate) (parent : KeptCertificate) → parents ≡ before ++ parent ∷ after → (q : Question)
+pub of_chain : (child : KeptCertificate) (parents before after : List KeptCertificate) (parent : KeptCertificate) → parents ≡ before ++ parent ∷ after
+    → (q : Question)
     → IsOfLink parent.elements (last_of child before).elements q → IsOfChain child parents q
 of_chain child parents before after parent are q asked =
     subst (λ (all : List KeptCertificate). IsOfChain child all q) (sym are) (at_parent child before after parent q asked)
@@ -26,16 +27,19 @@ of_places bag child [] [] stand q asked = absurd asked
 of_places bag child [] (parent ∷ parents) stand q asked = absurd stand
 of_places bag child (place ∷ places) [] stand q asked = absurd stand
 of_places bag child (place ∷ places) (parent ∷ parents) stand q (inl asked) = (parent.elements, stand.0, inl asked)
-of_places bag child (place ∷ places) (parent ∷ parents) stand q (inr asked) = (parent.elements, stand.0, inr (of_places bag parent places parents stand.1 q asked))
+of_places bag child (place ∷ places) (parent ∷ parents) stand q (inr asked) =
+    (parent.elements, stand.0, inr (of_places bag parent places parents stand.1 q asked))
 
 -- the first of the indices
-pub of_front : (bag : List CertificateElements) (child : CertificateElements) (front others : List ℕ) (q : Question) → IsOfLinks bag child front q → IsOfLinks bag child (front ++ others) q
+pub of_front : (bag : List CertificateElements) (child : CertificateElements) (front others : List ℕ) (q : Question) → IsOfLinks bag child front q
+    → IsOfLinks bag child (front ++ others) q
 of_front bag child [] others q asked = absurd asked
 of_front bag child (place ∷ front) others q (parent, stands, inl asked) = (parent, stands, inl asked)
 of_front bag child (place ∷ front) others q (parent, stands, inr asked) = (parent, stands, inr (of_front bag parent front others q asked))
 
 -- the certificate at an index, and the one before it
-pub of_next : (bag : List CertificateElements) (child : KeptCertificate) (before : List ℕ) (below : List KeptCertificate) (place : ℕ) (after : List ℕ) (parent : KeptCertificate) → StandAt bag before below → StandsAt bag place parent.elements
+pub of_next : (bag : List CertificateElements) (child : KeptCertificate) (before : List ℕ) (below : List KeptCertificate) (place : ℕ) (after : List ℕ)
+    (parent : KeptCertificate) → StandAt bag before below → StandsAt bag place parent.elements
     → (q : Question) → IsOfLink parent.elements (last_of child below).elements q → IsOfLinks bag child.elements (before ++ place ∷ after) q
 of_next bag child [] [] place after parent stand stands q asked = (parent.elements, stands, inl asked)
 of_next bag child [] (kept ∷ below) place after parent stand stands q asked = absurd stand

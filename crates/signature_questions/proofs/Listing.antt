@@ -41,7 +41,8 @@ none_of qs q are h = none_there q (subst (λ (all : List Question). Contains all
 
 -- ---- links
 
-links_listed : (bag : List CertificateElements) (child : CertificateElements) (places : List ℕ) (qs : List Question) → AreOfLinks bag child places qs → (q : Question) → IsOfLinks bag child places q → Contains qs q
+links_listed : (bag : List CertificateElements) (child : CertificateElements) (places : List ℕ) (qs : List Question) → AreOfLinks bag child places qs
+    → (q : Question) → IsOfLinks bag child places q → Contains qs q
 links_listed bag child [] qs are q asked = absurd asked
 links_listed bag child (place ∷ places) qs (parent, stands, first, the, others, is, more) q (other, there, inl asked) =
     let own = subst (λ (c : CertificateElements). IsOfLink c child q) (same_certificate bag place place parent other refl stands there) asked in
@@ -50,7 +51,8 @@ links_listed bag child (place ∷ places) qs (parent, stands, first, the, others
     let own = subst (λ (c : CertificateElements). IsOfLinks bag c places q) (same_certificate bag place place parent other refl stands there) asked in
     listed_later (option_to_list first) others qs q is (links_listed bag parent places others more q own)
 
-links_asked : (bag : List CertificateElements) (child : CertificateElements) (places : List ℕ) (qs : List Question) → AreOfLinks bag child places qs → (q : Question) → Contains qs q → IsOfLinks bag child places q
+links_asked : (bag : List CertificateElements) (child : CertificateElements) (places : List ℕ) (qs : List Question) → AreOfLinks bag child places qs
+    → (q : Question) → Contains qs q → IsOfLinks bag child places q
 links_asked bag child [] qs are q listed = absurd (none_of qs q are listed)
 links_asked bag child (place ∷ places) qs (parent, stands, first, the, others, is, more) q listed =
     elim (parted (option_to_list first) others qs q is listed) [
@@ -58,14 +60,16 @@ links_asked bag child (place ∷ places) qs (parent, stands, first, the, others,
       | inr later ↦ (parent, stands, inr (links_asked bag parent places others more q later))
     ]
 
-pub chain_listed : (child : KeptCertificate) (parents : List KeptCertificate) (qs : List Question) → AreOfChain child parents qs → (q : Question) → IsOfChain child parents q → Contains qs q
+pub chain_listed : (child : KeptCertificate) (parents : List KeptCertificate) (qs : List Question) → AreOfChain child parents qs → (q : Question)
+    → IsOfChain child parents q → Contains qs q
 chain_listed child [] qs are q asked = absurd asked
 chain_listed child (parent ∷ parents) qs (first, the, others, is, more) q (inl asked) =
     listed_first (option_to_list first) others qs q is (one_listed (IsOfLink parent.elements child.elements) first the q asked)
 chain_listed child (parent ∷ parents) qs (first, the, others, is, more) q (inr asked) =
     listed_later (option_to_list first) others qs q is (chain_listed parent parents others more q asked)
 
-pub chain_asked : (child : KeptCertificate) (parents : List KeptCertificate) (qs : List Question) → AreOfChain child parents qs → (q : Question) → Contains qs q → IsOfChain child parents q
+pub chain_asked : (child : KeptCertificate) (parents : List KeptCertificate) (qs : List Question) → AreOfChain child parents qs → (q : Question) → Contains qs q
+    → IsOfChain child parents q
 chain_asked child [] qs are q listed = absurd (none_of qs q are listed)
 chain_asked child (parent ∷ parents) qs (first, the, others, is, more) q listed =
     elim (parted (option_to_list first) others qs q is listed) [
@@ -75,7 +79,8 @@ chain_asked child (parent ∷ parents) qs (first, the, others, is, more) q liste
 
 -- ---- all certificates above another
 
-moved : (a b : List CertificateElements) (c d : CertificateElements) (p r : List ℕ) (q : Question) → a ≡ b → c ≡ d → p ≡ r → IsOfLinks a c p q → IsOfLinks b d r q
+moved : (a b : List CertificateElements) (c d : CertificateElements) (p r : List ℕ) (q : Question) → a ≡ b → c ≡ d → p ≡ r → IsOfLinks a c p q
+    → IsOfLinks b d r q
 moved a b c d p r q bags certificates places asked =
     subst (λ (bag : List CertificateElements). IsOfLinks bag d r q) bags
     (subst (λ (child : CertificateElements). IsOfLinks a child r q) certificates
@@ -116,5 +121,6 @@ module _ (f : SignedDataElements) (qs : List Question) (are : AreQuestions f qs)
   pub are_listed : (q : Question) → IsQuestion f q ↔ Contains qs q
   are_listed q = (listed q, asked q)
 
-pub are_listed_of_chain : (child : KeptCertificate) (parents : List KeptCertificate) (qs : List Question) → AreOfChain child parents qs → (q : Question) → IsOfChain child parents q ↔ Contains qs q
+pub are_listed_of_chain : (child : KeptCertificate) (parents : List KeptCertificate) (qs : List Question) → AreOfChain child parents qs → (q : Question)
+    → IsOfChain child parents q ↔ Contains qs q
 are_listed_of_chain child parents qs are q = (chain_listed child parents qs are q, chain_asked child parents qs are q)

@@ -12,7 +12,8 @@ use Rattle.authenticode_core.specs.SignedFields.{signed_message}
 use Rattle.authenticode_core.proofs.SignedMessages.{attributes_bit, empty_set, same_tail}
 
 -- attributes with the tag of a SET
-pub with_attributes : (g : SignerElements) (e : DerElement) (whole : List ℕ) → IsDer e → whole ≡ encoding e → ∥ AreSignerFields g × IsSignerInfo (signer_of g) ∥₁ → Some e ≡ g.signed_attrs
+pub with_attributes : (g : SignerElements) (e : DerElement) (whole : List ℕ) → IsDer e → whole ≡ encoding e
+    → ∥ AreSignerFields g × IsSignerInfo (signer_of g) ∥₁ → Some e ≡ g.signed_attrs
     → 0x31 ∷ take (length whole - 1) (drop 1 whole) ≡ signed_message g
 with_attributes g e whole der is fits are =
     let same = same_tail e der.formed (attributes_bit g e fits (sym are)) in

@@ -50,7 +50,8 @@ module _ (at_most_one : FaultsAreOne) (exclude : FaultsExclude) where
   signature_line_once octets a b (inl (f, has, p)) (inr q) = absurd (not_refused octets f q.error has q.refuses)
   signature_line_once octets a b (inr p) (inl (g, own, q)) = absurd (not_refused octets g p.error own p.refuses)
   signature_line_once octets a b (inr p) (inr q) =
-      let one = one_refusal at_most_one exclude plain octets p.error q.error (value_refuses plain octets p.error p.refuses) (value_refuses plain octets q.error q.refuses) in
+      let one = one_refusal at_most_one exclude plain octets p.error q.error (value_refuses plain octets p.error p.refuses)
+      (value_refuses plain octets q.error q.refuses) in
       same_line a b (p.status ∙ sym q.status) (p.text ∙ ap refused_line one ∙ sym q.text)
 
 -- ---- a chain

@@ -21,20 +21,25 @@ joined : (a b : Option Question) (xs ys qs rs : List Question) → qs ≡ option
 joined a b xs ys qs rs is are same others =
     is ∙ ap₂ (λ (o : Option Question) (zs : List Question). option_to_list o ++ zs) same others ∙ sym are
 
-pub chain_once : (child : KeptCertificate) (parents : List KeptCertificate) (qs rs : List Question) → AreOfChain child parents qs → AreOfChain child parents rs → qs ≡ rs
+pub chain_once : (child : KeptCertificate) (parents : List KeptCertificate) (qs rs : List Question) → AreOfChain child parents qs
+    → AreOfChain child parents rs → qs ≡ rs
 chain_once child [] qs rs are own = are ∙ sym own
 chain_once child (parent ∷ parents) qs rs (first, the, others, is, more) (one, own, behind, own_is, left) =
-    joined first one others behind qs rs is own_is (one_is (IsOfLink parent.elements child.elements) first one the own) (chain_once parent parents others behind more left)
+    joined first one others behind qs rs is own_is (one_is (IsOfLink parent.elements child.elements) first one the own)
+    (chain_once parent parents others behind more left)
 
-links_once : (bag : List CertificateElements) (child : CertificateElements) (places : List ℕ) (qs rs : List Question) → AreOfLinks bag child places qs → AreOfLinks bag child places rs → qs ≡ rs
+links_once : (bag : List CertificateElements) (child : CertificateElements) (places : List ℕ) (qs rs : List Question) → AreOfLinks bag child places qs
+    → AreOfLinks bag child places rs → qs ≡ rs
 links_once bag child [] qs rs are own = are ∙ sym own
 links_once bag child (place ∷ places) qs rs (parent, stands, first, the, others, is, more) (other, there, one, own, behind, own_is, left) =
     let same : other ≡ parent = same_certificate bag place place parent other refl stands there in
     let first_own : IsTheOne (IsOfLink parent child) one = subst (λ (c : CertificateElements). IsTheOne (IsOfLink c child) one) same own in
     let left_own : AreOfLinks bag parent places behind = subst (λ (c : CertificateElements). AreOfLinks bag c places behind) same left in
-    joined first one others behind qs rs is own_is (one_is (IsOfLink parent child) first one the first_own) (links_once bag parent places others behind more left_own)
+    joined first one others behind qs rs is own_is (one_is (IsOfLink parent child) first one the first_own)
+    (links_once bag parent places others behind more left_own)
 
-moved_list : (a b : List CertificateElements) (c d : CertificateElements) (p r : List ℕ) (qs : List Question) → a ≡ b → c ≡ d → p ≡ r → AreOfLinks a c p qs → AreOfLinks b d r qs
+moved_list : (a b : List CertificateElements) (c d : CertificateElements) (p r : List ℕ) (qs : List Question) → a ≡ b → c ≡ d → p ≡ r → AreOfLinks a c p qs
+    → AreOfLinks b d r qs
 moved_list a b c d p r qs bags certificates places are =
     subst (λ (bag : List CertificateElements). AreOfLinks bag d r qs) bags
     (subst (λ (child : CertificateElements). AreOfLinks a child r qs) certificates

@@ -31,7 +31,8 @@ same_question : (q r : Question) → q.algorithm ≡ r.algorithm → q.key ≡ r
 same_question q r a k m s = λ i. record { algorithm = a i; key = k i; message = m i; signature = s i }
 
 -- the same algorithm and key
-asks_once : (algorithm other : SignatureAlgorithm) (info own : SubjectPublicKeyInfo) (message signature : List ℕ) (q r : Question) → algorithm ≡ other → info ≡ own
+asks_once : (algorithm other : SignatureAlgorithm) (info own : SubjectPublicKeyInfo) (message signature : List ℕ) (q r : Question) → algorithm ≡ other
+    → info ≡ own
     → AsksAbout algorithm info message signature q → AsksAbout other own message signature r → r ≡ q
 asks_once algorithm other info own message signature q r same alike p t =
     let fits : FitsKey algorithm info r.algorithm r.key =
@@ -42,7 +43,8 @@ asks_once algorithm other info own message signature q r same alike p t =
 
 -- ---- a link
 
-named_once_more : (child : CertificateElements) (a b : SignatureAlgorithm) (i j : AlgorithmIdentifier) → HasAlgorithm child i → HasAlgorithm child j → NamesSignature i a → NamesSignature j b → a ≡ b
+named_once_more : (child : CertificateElements) (a b : SignatureAlgorithm) (i j : AlgorithmIdentifier) → HasAlgorithm child i → HasAlgorithm child j
+    → NamesSignature i a → NamesSignature j b → a ≡ b
 named_once_more child a b i j p q m n =
     same_algorithm a b _ m (subst (λ (x : AlgorithmIdentifier). NamesSignature x b) (sym (one_algorithm child i j p q)) n)
 
@@ -66,7 +68,8 @@ module _ (parent child : CertificateElements) where
         (subst (λ (a : SignatureAlgorithm). FitsKey a asked.info q.algorithm q.key)
         (sym (named_once_more child algorithm asked.algorithm id asked.parts.id beside asked.parts.beside named asked.parts.named)) asked.asked.fits)
 
-    pub the_link : (info : SubjectPublicKeyInfo) (q : Question) → HasKey parent info → FitsKey algorithm info q.algorithm q.key → q.message ≡ signed_octets child → q.signature ≡ child.signature
+    pub the_link : (info : SubjectPublicKeyInfo) (q : Question) → HasKey parent info → FitsKey algorithm info q.algorithm q.key
+        → q.message ≡ signed_octets child → q.signature ≡ child.signature
         → IsTheOne (IsOfLink parent child) (Some q)
     the_link info q key fits message signature =
         let parts : IsSignedWith parent child algorithm info = record { id = id; beside = beside; named = named; key = key } in
@@ -74,7 +77,8 @@ module _ (parent child : CertificateElements) where
         (record { algorithm = algorithm; info = info; parts = parts; asked = asked }, λ r other. link_once algorithm info parts q r asked other)
 
     -- the same for a borrowed question
-    pub the_link_of : (info : SubjectPublicKeyInfo) (alg : SigAlg) (bytes message signature : List ℕ) → HasKey parent info → FitsKey algorithm info alg bytes → message ≡ signed_octets child → signature ≡ child.signature
+    pub the_link_of : (info : SubjectPublicKeyInfo) (alg : SigAlg) (bytes message signature : List ℕ) → HasKey parent info → FitsKey algorithm info alg bytes
+        → message ≡ signed_octets child → signature ≡ child.signature
         → IsTheOne (IsOfLink parent child) (Some (record { algorithm = alg; key = bytes; message = message; signature = signature }))
     the_link_of info alg bytes message signature key fits octets own =
         the_link info (record { algorithm = alg; key = bytes; message = message; signature = signature }) key fits octets own
@@ -87,12 +91,14 @@ same_octets a b e = cc
 pub no_signer : (f : SignedDataElements) → ((g : SignerElements) → IsFirstSigner f g → ⊥) → (q : Question) → IsOfSigner f q → ⊥
 no_signer f none q asked = none asked.g asked.first
 
-pub no_certificate : (f : SignedDataElements) (bag : List CertificateElements) → IsBagOf f bag → HasNoSigner (signers_of f) bag → (place : ℕ) (c : CertificateElements) (other : List CertificateElements) → IsBagOf f other → IsSignerCertificate f other place c → ⊥
+pub no_certificate : (f : SignedDataElements) (bag : List CertificateElements) → IsBagOf f bag → HasNoSigner (signers_of f) bag
+    → (place : ℕ) (c : CertificateElements) (other : List CertificateElements) → IsBagOf f other → IsSignerCertificate f other place c → ⊥
 no_certificate f bag is none place c other are signer =
     let here = subst (λ (b : List CertificateElements). IsSignerCertificate f b place c) (same_bag f other bag are is) signer in
     none place c here.later here.stands here.fits
 
-pub no_signer_without : (f : SignedDataElements) (bag : List CertificateElements) → IsBagOf f bag → HasNoSigner (signers_of f) bag → (q : Question) → IsOfSigner f q → ⊥
+pub no_signer_without : (f : SignedDataElements) (bag : List CertificateElements) → IsBagOf f bag → HasNoSigner (signers_of f) bag → (q : Question)
+    → IsOfSigner f q → ⊥
 no_signer_without f bag is none q asked = no_certificate f bag is none asked.place asked.certificate asked.bag asked.is_bag asked.is_signer
 
 module _ (f : SignedDataElements) (g : SignerElements) (first : IsFirstSigner f g) where
@@ -118,7 +124,8 @@ module _ (f : SignedDataElements) (g : SignerElements) (first : IsFirstSigner f 
         none asked.info q.algorithm q.key (own_key q asked)
         (subst (λ (h : HashAlgorithm). FitsKey (RsaPkcs1v15 h) asked.info q.algorithm q.key) (hash_once hash named q asked) asked.asked.fits)
 
-    pub the_signer : (info : SubjectPublicKeyInfo) (q : Question) → HasKey c info → FitsKey (RsaPkcs1v15 hash) info q.algorithm q.key → q.message ≡ signed_message g → g.signature ≡ octet_string q.signature
+    pub the_signer : (info : SubjectPublicKeyInfo) (q : Question) → HasKey c info → FitsKey (RsaPkcs1v15 hash) info q.algorithm q.key
+        → q.message ≡ signed_message g → g.signature ≡ octet_string q.signature
         → IsTheOne (IsOfSigner f) (Some q)
     the_signer info q key fits message signature =
         let asks : AsksAbout (RsaPkcs1v15 hash) info (signed_message g) q.signature q = record { fits = fits; message_is = message; signature_is = refl } in (
@@ -152,7 +159,8 @@ module _ (f : SignedDataElements) (g : SignerElements) (first : IsFirstSigner f 
         )
 
     -- the same for a borrowed question
-    pub the_signer_of : (info : SubjectPublicKeyInfo) (alg : SigAlg) (bytes message signature : List ℕ) → HasKey c info → FitsKey (RsaPkcs1v15 hash) info alg bytes → message ≡ signed_message g → g.signature ≡ octet_string signature
+    pub the_signer_of : (info : SubjectPublicKeyInfo) (alg : SigAlg) (bytes message signature : List ℕ) → HasKey c info
+        → FitsKey (RsaPkcs1v15 hash) info alg bytes → message ≡ signed_message g → g.signature ≡ octet_string signature
         → IsTheOne (IsOfSigner f) (Some (record { algorithm = alg; key = bytes; message = message; signature = signature }))
     the_signer_of info alg bytes message signature key fits octets own =
         the_signer info (record { algorithm = alg; key = bytes; message = message; signature = signature }) key fits octets own

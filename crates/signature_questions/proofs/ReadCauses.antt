@@ -16,7 +16,8 @@ use Rattle.signature_questions.specs.Commands.{IsRefusedCertificate}
 
 -- ---- octets that aren't a certificate
 
-one_source : (octets : List ℕ) (s t : DerError) → s ≢ der.Memory → t ≢ der.Memory → RefusesOctets IsCertificate octets s → RefusesOctets IsCertificate octets t → s ≡ t
+one_source : (octets : List ℕ) (s t : DerError) → s ≢ der.Memory → t ≢ der.Memory → RefusesOctets IsCertificate octets s
+    → RefusesOctets IsCertificate octets t → s ≡ t
 one_source octets (der.Malformed m) (der.Malformed n) a b p q = ap der.Malformed (refused_exactly octets n.at n.fault m q p)
 one_source octets (der.Malformed m) der.Shape a b p q = absurd (no_fault_where_whole octets q.element m.at m.fault q.der q.encoded p)
 one_source octets (der.Malformed m) der.TooDeep a b p q = absurd q
@@ -69,13 +70,16 @@ pub one_cause : (octets : List (List ℕ)) (e d : CertError) → IsRefusedCertif
 one_cause octets e d (p, a) (q, b) =
     one_unread p.read q.read p.unread q.unread p.others q.others e d a b (sym p.are ∙ q.are) p.refused q.refused
 
-all_read : (certificates read : List KeptCertificate) (u : List ℕ) (others : List (List ℕ)) (e : CertError) → e ≢ cert.Memory → map kept_octets certificates ≡ map kept_octets read ++ u ∷ others → Refused u e → ⊥
+all_read : (certificates read : List KeptCertificate) (u : List ℕ) (others : List (List ℕ)) (e : CertError) → e ≢ cert.Memory
+    → map kept_octets certificates ≡ map kept_octets read ++ u ∷ others → Refused u e → ⊥
 all_read [] [] u others e a are p = absurd (let none = are in cc)
 all_read [] (k ∷ read) u others e a are p = absurd (let none = are in cc)
 all_read (c ∷ certificates) [] u others e a are p = not_refused c u e (first_is (kept_octets c) u (map kept_octets certificates) others are) a p
 all_read (c ∷ certificates) (k ∷ read) u others e a are p =
-    all_read certificates read u others e a (others_are (kept_octets c) (kept_octets k) (map kept_octets certificates) (map kept_octets read ++ u ∷ others) are) p
+    all_read certificates read u others e a
+    (others_are (kept_octets c) (kept_octets k) (map kept_octets certificates) (map kept_octets read ++ u ∷ others) are) p
 
 -- if all are certificates, none is refused
-pub none_refused : (octets : List (List ℕ)) (certificates : List KeptCertificate) (e : CertError) → map kept_octets certificates ≡ octets → IsRefusedCertificate octets e → ⊥
+pub none_refused : (octets : List (List ℕ)) (certificates : List KeptCertificate) (e : CertError) → map kept_octets certificates ≡ octets
+    → IsRefusedCertificate octets e → ⊥
 none_refused octets certificates e are (p, a) = all_read certificates p.read p.unread p.others e a (are ∙ p.are) p.refused

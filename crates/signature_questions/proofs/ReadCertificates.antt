@@ -11,7 +11,8 @@ use Rattle.x509_core.specs.declared.error.CertError.TheVariants as cert
 use Rattle.signature_questions.specs.Commands.{AreKeptCertificates, IsFirstUnread}
 
 -- if the first isn't read
-pub first_unread : (octets : List ℕ) (others all : List (List ℕ)) (e : CertError) → all ≡ octets ∷ others → IsUnreadCert elements.Certificate (RefusesOctets IsCertificate octets) e → IsFirstUnread all e
+pub first_unread : (octets : List ℕ) (others all : List (List ℕ)) (e : CertError) → all ≡ octets ∷ others
+    → IsUnreadCert elements.Certificate (RefusesOctets IsCertificate octets) e → IsFirstUnread all e
 first_unread octets others all e are unread = record { read = []; unread = octets; others = others; are = are; refused = unread }
 
 -- if memory ran out for storing it
@@ -19,9 +20,16 @@ pub unkept : (octets : List ℕ) (others all : List (List ℕ)) → all ≡ octe
 unkept octets others all are = first_unread octets others all cert.Memory are (der.Memory, refl, tt)
 
 -- if it is read, and a later one isn't
-pub later_unread : (octets : List ℕ) (others all : List (List ℕ)) (e : CertError) (certificate : KeptCertificate) → all ≡ octets ∷ others → kept_octets certificate ≡ octets → IsFirstUnread others e → IsFirstUnread all e
+pub later_unread : (octets : List ℕ) (others all : List (List ℕ)) (e : CertError) (certificate : KeptCertificate) → all ≡ octets ∷ others
+    → kept_octets certificate ≡ octets → IsFirstUnread others e → IsFirstUnread all e
 later_unread octets others all e certificate are kept h =
-    record { read = certificate ∷ h.read; unread = h.unread; others = h.others; are = are ∙ ap₂ (λ (x : List ℕ) (xs : List (List ℕ)). x ∷ xs) (sym kept) h.are; refused = h.refused }
+    record {
+      read = certificate ∷ h.read;
+      unread = h.unread;
+      others = h.others;
+      are = are ∙ ap₂ (λ (x : List ℕ) (xs : List (List ℕ)). x ∷ xs) (sym kept) h.are;
+      refused = h.refused;
+    }
 
 -- if it is read, and so are all later ones
 pub read_behind : (octets : List ℕ) (others all : List (List ℕ)) (certificate : KeptCertificate) (before kept after : List KeptCertificate)

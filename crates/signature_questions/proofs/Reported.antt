@@ -28,14 +28,18 @@ as_many files (name ∷ names) (octets ∷ contents) whole = let behind = as_man
 memory_stops : (stop : Stop) → stop ≡ stops.Memory → StopsForText ⊥ stop
 memory_stops stop is = subst (λ (s : Stop). StopsForText ⊥ s) (sym is) tt
 
-pub reported : (before after : ShelfState) (job : Job) (held contents : List (List ℕ)) (result : Result Report Stop) → held ≡ contents → AreRead before after (files_of job) contents → Reports (IsAnswerLine job held) result
+pub reported : (before after : ShelfState) (job : Job) (held contents : List (List ℕ)) (result : Result Report Stop) → held ≡ contents
+    → AreRead before after (files_of job) contents → Reports (IsAnswerLine job held) result
     → IsInquiry before after (question_of job) result
 reported before after job held contents result same read reports =
     let own : Reports (IsAnswerLine job contents) result = subst (λ (cs : List (List ℕ)). Reports (IsAnswerLine job cs) result) same reports in
-    IsInquiry-read before after (question_of job) contents read result own.reported (IfErr-weaker result _ _ (λ stop memory. memory_stops stop memory) own.stopped) own.only (λ bad. absurd bad)
+    IsInquiry-read before after (question_of job) contents read result own.reported
+    (IfErr-weaker result _ _ (λ stop memory. memory_stops stop memory) own.stopped) own.only (λ bad. absurd bad)
 
 -- the contents of one file
-pub signature_reported : {V : Type 0} (items : V → List ℕ) (file : List ℕ) (vs : List V) (v : V) (octets : List ℕ) (result : Result Report Stop) → length vs ≡ 1 → v ≡ get_or vs 0 v → octets ≡ items v
+pub signature_reported : {V : Type 0} (items : V → List ℕ) (file : List ℕ) (vs : List V) (v : V) (octets : List ℕ) (result : Result Report Stop) → length vs ≡ 1
+    → v ≡ get_or vs 0 v → octets ≡ items v
     → Reports (IsSignatureLine octets) result → Reports (IsAnswerLine (OfSignature file) (map items vs)) result
-signature_reported items file (w ∷ []) v octets result one is said reports = subst (λ (o : List ℕ). Reports (IsSignatureLine o) result) (said ∙ ap items is) reports
+signature_reported items file (w ∷ []) v octets result one is said reports =
+    subst (λ (o : List ℕ). Reports (IsSignatureLine o) result) (said ∙ ap items is) reports
 signature_reported items file vs v octets result one is said reports = absurd (omega arith)

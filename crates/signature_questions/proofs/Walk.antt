@@ -1,5 +1,6 @@
 -- The questions that are still to come, one after another.
-use Rattle.std.proofs.Common.{◌≡◌, ◌⊎◌, ℕ, ◌+◌, ◌<◌, List, [], ◌∷◌, ◌++◌, length, Option, Some, None, IfSome, MatchOption, inl, inr, refl, sym, ap, subst, ◌∙◌, arith}
+use Rattle.std.proofs.Common.{◌≡◌, ◌⊎◌, ℕ, ◌+◌, ◌<◌, List, [], ◌∷◌, ◌++◌, length, Option, Some}
+use Rattle.std.proofs.Common.{None, IfSome, MatchOption, inl, inr, refl, sym, ap, subst, ◌∙◌, arith}
 use Rattle.std.specs.Prelude.{option_to_list}
 use Rattle.cms_types.specs.SignedDataElements.{SignedDataElements}
 use Rattle.cms_types.specs.SignerElements.{SignerElements}
@@ -28,9 +29,11 @@ use Rattle.signature_questions.proofs.OneQuestion.{no_certificate}
 -- ---- certificates of a bag
 
 module _ (child c : CertificateElements) (old new : Others) (place : ℕ)
-    (steps : (bag : List CertificateElements) (places : List ℕ) → AreLeft old bag places → (behind : List ℕ) × IsFirstOf bag places place c behind × AreLeft new bag behind) where
+    (steps : (bag : List CertificateElements) (places : List ℕ) → AreLeft old bag places
+    → (behind : List ℕ) × IsFirstOf bag places place c behind × AreLeft new bag behind) where
   -- the question about the next certificate comes first, if there is one
-  pub links_go_on : (first : Option Question) → IsTheOne (IsOfLink c child) first → (others : List Question) → ((bag : List CertificateElements) (places : List ℕ) → AreLeft new bag places → AreOfLinks bag c places others)
+  pub links_go_on : (first : Option Question) → IsTheOne (IsOfLink c child) first → (others : List Question)
+      → ((bag : List CertificateElements) (places : List ℕ) → AreLeft new bag places → AreOfLinks bag c places others)
       → (bag : List CertificateElements) (places : List ℕ) → AreLeft old bag places → AreOfLinks bag child places (option_to_list first ++ others)
   links_go_on first the others more bag places left =
       let moved = steps bag places left in
@@ -43,14 +46,17 @@ links_end child old none bag places left = subst (λ (ps : List ℕ). AreOfLinks
 
 -- ---- certificates of a chain
 
-pub chain_goes_on : (child parent : KeptCertificate) (all parents : List KeptCertificate) → all ≡ parent ∷ parents → (first : Option Question) → IsTheOne (IsOfLink parent.elements child.elements) first
+pub chain_goes_on : (child parent : KeptCertificate) (all parents : List KeptCertificate) → all ≡ parent ∷ parents → (first : Option Question)
+    → IsTheOne (IsOfLink parent.elements child.elements) first
     → (others : List Question) → AreOfChain parent parents others → AreOfChain child all (option_to_list first ++ others)
 chain_goes_on child parent all parents are first the others more =
     subst (λ (ps : List KeptCertificate). AreOfChain child ps (option_to_list first ++ others)) (sym are) (first, the, others, refl, more)
 
 -- the same by borrowed certificates
-pub chain_goes_on_with : (child parent : KeptCertificate) (all parents : List KeptCertificate) → all ≡ parent ∷ parents → (p c : CertificateElements) → p ≡ parent.elements → c ≡ child.elements
-    → (first : Option Question) → IsTheOne (IsOfLink p c) first → (others : List Question) → AreOfChain parent parents others → AreOfChain child all (option_to_list first ++ others)
+pub chain_goes_on_with : (child parent : KeptCertificate) (all parents : List KeptCertificate) → all ≡ parent ∷ parents → (p c : CertificateElements)
+    → p ≡ parent.elements → c ≡ child.elements
+    → (first : Option Question) → IsTheOne (IsOfLink p c) first → (others : List Question) → AreOfChain parent parents others
+    → AreOfChain child all (option_to_list first ++ others)
 chain_goes_on_with child parent all parents are p c above below first the others more =
     let own : IsTheOne (IsOfLink parent.elements child.elements) first =
     subst (λ (d : CertificateElements). IsTheOne (IsOfLink parent.elements d) first) below
@@ -69,10 +75,12 @@ nothing_ahead links none = subst (λ (ls : Option Links). AreAheadOf ls []) (sym
 pub ahead_of : (links : Option Links) (cursor : Links) → links ≡ Some cursor → (qs : List Question) → AreLinksAhead cursor qs → AreAheadOf links qs
 ahead_of links cursor is qs ahead = subst (λ (ls : Option Links). AreAheadOf ls qs) (sym is) ahead
 
-pub fewer_of : (links : Option Links) (cursor new : Links) → links ≡ Some cursor → length (unread_members new.parents.source) < length (unread_members cursor.parents.source) → left_links (Some new) < left_links links
+pub fewer_of : (links : Option Links) (cursor new : Links) → links ≡ Some cursor
+    → length (unread_members new.parents.source) < length (unread_members cursor.parents.source) → left_links (Some new) < left_links links
 fewer_of links cursor new is fewer = subst (λ (ls : Option Links). left_links (Some new) < left_links ls) (sym is) fewer
 
-signer_first : (found : Option BorrowedQuestion) (q : BorrowedQuestion) → found ≡ Some q → (others : List Question) → asked q ∷ others ≡ option_to_list (asked_option found) ++ others
+signer_first : (found : Option BorrowedQuestion) (q : BorrowedQuestion) → found ≡ Some q → (others : List Question)
+    → asked q ∷ others ≡ option_to_list (asked_option found) ++ others
 signer_first found q is others = sym (ap (λ (f : Option BorrowedQuestion). option_to_list (asked_option f) ++ others) is)
 
 no_more : (found : Option BorrowedQuestion) → found ≡ None → (others : List Question) → option_to_list (asked_option found) ++ others ≡ others
@@ -84,12 +92,14 @@ module _ (old new : Questions) where
   signer_is_first q is gone path token others h = record {
     path = h.path;
     token = h.token;
-    are = signer_first old.signer q is others ∙ ap (λ (qs : List Question). option_to_list (asked_option old.signer) ++ qs) (h.are ∙ no_more new.signer gone (h.path ++ h.token));
+    are = signer_first old.signer q is others
+        ∙ ap (λ (qs : List Question). option_to_list (asked_option old.signer) ++ qs) (h.are ∙ no_more new.signer gone (h.path ++ h.token));
     of_path = subst (λ (links : Option Links). AreAheadOf links h.path) path h.of_path;
     of_token = subst (λ (links : Option Links). AreAheadOf links h.token) token h.of_token;
   }
 
-  pub path_is_next : (q : Question) → old.signer ≡ None → new.signer ≡ None → new.token ≡ old.token → ((others : List Question) → AreAheadOf new.path others → AreAheadOf old.path (q ∷ others))
+  pub path_is_next : (q : Question) → old.signer ≡ None → new.signer ≡ None → new.token ≡ old.token
+      → ((others : List Question) → AreAheadOf new.path others → AreAheadOf old.path (q ∷ others))
       → (others : List Question) → AreAhead new others → AreAhead old (q ∷ others)
   path_is_next q none gone token step others h = record {
     path = q ∷ h.path;
@@ -99,13 +109,15 @@ module _ (old new : Questions) where
     of_token = subst (λ (links : Option Links). AreAheadOf links h.token) token h.of_token;
   }
 
-  pub token_is_next : (q : Question) → old.signer ≡ None → new.signer ≡ None → AreAheadOf old.path [] → new.path ≡ None → ((others : List Question) → AreAheadOf new.token others → AreAheadOf old.token (q ∷ others))
+  pub token_is_next : (q : Question) → old.signer ≡ None → new.signer ≡ None → AreAheadOf old.path [] → new.path ≡ None
+      → ((others : List Question) → AreAheadOf new.token others → AreAheadOf old.token (q ∷ others))
       → (others : List Question) → AreAhead new others → AreAhead old (q ∷ others)
   token_is_next q none gone ended path step others h = record {
     path = [];
     token = q ∷ h.token;
     are = ap (λ (qs : List Question). q ∷ qs)
-        (h.are ∙ no_more new.signer gone (h.path ++ h.token) ∙ ap (λ (qs : List Question). qs ++ h.token) (subst (λ (links : Option Links). AreAheadOf links h.path) path h.of_path))
+        (h.are ∙ no_more new.signer gone (h.path ++ h.token)
+        ∙ ap (λ (qs : List Question). qs ++ h.token) (subst (λ (links : Option Links). AreAheadOf links h.path) path h.of_path))
         ∙ sym (no_more old.signer none (q ∷ h.token));
     of_path = ended;
     of_token = step h.token h.of_token;
@@ -130,13 +142,15 @@ token_answers old new (Some q) none gone ended path step = λ others more. token
 pub fewer_left : (signer : Option BorrowedQuestion) (q : BorrowedQuestion) (n : ℕ) → signer ≡ Some q → one_left None + n < one_left signer + n
 fewer_left signer q n is = subst (λ (s : Option BorrowedQuestion). one_left None + n < one_left s + n) (sym is) (omega arith)
 
-pub token_fewer : (r : Option BorrowedQuestion) (one path path_now token token_now : ℕ) → path_now ≡ 0 → IfSome r (λ q. token_now < token) → IfSome r (λ q. one + (path_now + token_now) < one + (path + token))
+pub token_fewer : (r : Option BorrowedQuestion) (one path path_now token token_now : ℕ) → path_now ≡ 0 → IfSome r (λ q. token_now < token)
+    → IfSome r (λ q. one + (path_now + token_now) < one + (path + token))
 token_fewer None one path path_now token token_now none fewer = tt
 token_fewer (Some q) one path path_now token token_now none fewer = omega (arith, none, fewer)
 
 -- ---- at the beginning
 
-pub all_ahead : (f : SignedDataElements) (cursor : Questions) → IsTheOne (IsOfSigner f) (asked_option cursor.signer) → ((qs : List Question) → AreAheadOf cursor.path qs → AreOfAll (HasPath f) qs)
+pub all_ahead : (f : SignedDataElements) (cursor : Questions) → IsTheOne (IsOfSigner f) (asked_option cursor.signer)
+    → ((qs : List Question) → AreAheadOf cursor.path qs → AreOfAll (HasPath f) qs)
     → ((qs : List Question) → AreAheadOf cursor.token qs → AreOfAll (HasStamp f) qs) → (qs : List Question) → AreAhead cursor qs → AreQuestions f qs
 all_ahead f cursor signer path token qs h = record {
   signer = asked_option cursor.signer;
@@ -158,11 +172,14 @@ no_path_of_none f none qs is =
       is,
     )
 
-pub no_path_without : (f : SignedDataElements) (bag : List CertificateElements) → IsBagOf f bag → HasNoSigner (signers_of f) bag → (qs : List Question) → qs ≡ [] → AreOfAll (HasPath f) qs
+pub no_path_without : (f : SignedDataElements) (bag : List CertificateElements) → IsBagOf f bag → HasNoSigner (signers_of f) bag → (qs : List Question)
+    → qs ≡ [] → AreOfAll (HasPath f) qs
 no_path_without f bag is none qs empty = inr (λ other child places has. no_certificate f bag is none has.place child other has.is_bag has.is_signer, empty)
 
-pub path_from : (f : SignedDataElements) (bag : List CertificateElements) (place : ℕ) (c : CertificateElements) (parents : Others) → IsBagOf f bag → IsSignerCertificate f bag place c
-    → ((path : List ℕ) × IsIssuerPath bag c path × AreLeft parents bag path) → (qs : List Question) → ((other : List CertificateElements) (places : List ℕ) → AreLeft parents other places → AreOfLinks other c places qs)
+pub path_from : (f : SignedDataElements) (bag : List CertificateElements) (place : ℕ) (c : CertificateElements) (parents : Others) → IsBagOf f bag
+    → IsSignerCertificate f bag place c
+    → ((path : List ℕ) × IsIssuerPath bag c path × AreLeft parents bag path) → (qs : List Question)
+    → ((other : List CertificateElements) (places : List ℕ) → AreLeft parents other places → AreOfLinks other c places qs)
     → AreOfAll (HasPath f) qs
 path_from f bag place c parents is signer (path, is_path, left) qs ahead =
     inl (bag, c, path, record { is_bag = is; place = place; is_signer = signer; is_path = is_path }, ahead bag path left)
@@ -170,12 +187,15 @@ path_from f bag place c parents is signer (path, is_path, left) qs ahead =
 pub no_token : (f : SignedDataElements) → ((t : SignedDataElements) → HasToken f t → ⊥) → (qs : List Question) → qs ≡ [] → AreOfAll (HasStamp f) qs
 no_token f none qs is = inr (λ bag child places has. none has.t has.has, is)
 
-pub no_stamping : (f t : SignedDataElements) → HasToken f t → ((bag : List CertificateElements) → IsForStamping t bag → ⊥) → (qs : List Question) → qs ≡ [] → AreOfAll (HasStamp f) qs
+pub no_stamping : (f t : SignedDataElements) → HasToken f t → ((bag : List CertificateElements) → IsForStamping t bag → ⊥) → (qs : List Question) → qs ≡ []
+    → AreOfAll (HasStamp f) qs
 no_stamping f t has none qs is =
     inr (λ bag child places other. none bag (subst (λ (x : SignedDataElements). IsForStamping x bag) (token_once f other.t t other.has has) other.stamping), is)
 
-pub stamp_from : (f t : SignedDataElements) → HasToken f t → (bag : List CertificateElements) → IsForStamping t bag → (first : CertificateElements) → StandsAt bag 0 first → (others : Others)
-    → ((places : List ℕ) × AreOthersThan bag first places × AreLeft others bag places) → (qs : List Question) → ((other : List CertificateElements) (places : List ℕ) → AreLeft others other places → AreOfLinks other first places qs)
+pub stamp_from : (f t : SignedDataElements) → HasToken f t → (bag : List CertificateElements) → IsForStamping t bag → (first : CertificateElements)
+    → StandsAt bag 0 first → (others : Others)
+    → ((places : List ℕ) × AreOthersThan bag first places × AreLeft others bag places) → (qs : List Question)
+    → ((other : List CertificateElements) (places : List ℕ) → AreLeft others other places → AreOfLinks other first places qs)
     → AreOfAll (HasStamp f) qs
 stamp_from f t has bag stamping first stands others (places, are, left) qs ahead =
     inl (bag, first, places, record { t = t; has = has; stamping = stamping; stands = stands; others = are }, ahead bag places left)

@@ -18,7 +18,8 @@ pub record AreWritten (All Left : List Question → Type 0) (text : List ℕ) : 
 pub none_written : (All : List Question → Type 0) (text : List ℕ) → text ≡ [] → AreWritten All All text
 none_written All text is = record { seen = []; text_is = is; ahead = λ others are. are }
 
-pub more_written : (All Left Behind : List Question → Type 0) (text longer : List ℕ) (q : Question) → AreWritten All Left text → ((others : List Question) → Behind others → Left (q ∷ others))
+pub more_written : (All Left Behind : List Question → Type 0) (text longer : List ℕ) (q : Question) → AreWritten All Left text
+    → ((others : List Question) → Behind others → Left (q ∷ others))
     → longer ≡ text ++ question_line q → AreWritten All Behind longer
 more_written All Left Behind text longer q h next is = record {
   seen = h.seen ++ q ∷ [];
@@ -26,5 +27,6 @@ more_written All Left Behind text longer q h next is = record {
   ahead = λ others are. subst All (sym (append_assoc h.seen (q ∷ []) others)) (h.ahead (q ∷ others) (next others are));
 }
 
-pub all_written : (All Left : List Question → Type 0) (text : List ℕ) → AreWritten All Left text → Left [] → (qs : List Question) × All qs × (text ≡ question_lines qs)
+pub all_written : (All Left : List Question → Type 0) (text : List ℕ) → AreWritten All Left text → Left []
+    → (qs : List Question) × All qs × (text ≡ question_lines qs)
 all_written All Left text h none = (h.seen, subst All (append-nil h.seen) (h.ahead [] none), h.text_is)

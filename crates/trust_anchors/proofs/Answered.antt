@@ -29,7 +29,8 @@ use Rattle.trust_anchors.specs.declared.report.Answer.TheVariants.{Anchored, NoP
 use Rattle.trust_anchors.proofs.Certificates.{one_answer}
 
 -- that nothing is found means that there is no path
-pub none_found : (IsOne : AnchoredPath → Type 0) (found : Option AnchoredPath) → found ≡ None → MatchOption found (HasNoPath IsOne) (IsFirstPath IsOne) → HasNoPath IsOne
+pub none_found : (IsOne : AnchoredPath → Type 0) (found : Option AnchoredPath) → found ≡ None → MatchOption found (HasNoPath IsOne) (IsFirstPath IsOne)
+    → HasNoPath IsOne
 none_found IsOne None is h = h
 none_found IsOne (Some path) is h = absurd cc
 
@@ -53,7 +54,8 @@ gives_line answer line (Err s) status text h = h
 pub memory_reports : (Is : Answer → Type 0) (s : Stop) → s ≡ stop.Memory → Reports Is (Err s)
 memory_reports Is s is = record { reported = tt; stopped = is; only = λ other also. is }
 
-pub answer_reports : (judge : Judge) (job : Job) (octets : List (List ℕ)) (answer : Answer) (report : Report) → IsAnswerTo judge job octets answer → IsReportOf answer report
+pub answer_reports : (judge : Judge) (job : Job) (octets : List (List ℕ)) (answer : Answer) (report : Report) → IsAnswerTo judge job octets answer
+    → IsReportOf answer report
     → Reports (IsAnswerTo judge job octets) (Ok report)
 answer_reports judge job octets answer report is h = record {
   reported = (answer, is, h);
@@ -62,7 +64,8 @@ answer_reports judge job octets answer report is h = record {
 }
 
 -- what is found for the certificates of a job is its answer
-pub found_answer : (judge : Judge) (job : Job) (read octets : List (List ℕ)) (store : List Anchor) (checked : KeptCertificate) (pool : List KeptCertificate) (answer : Answer)
+pub found_answer : (judge : Judge) (job : Job) (read octets : List (List ℕ)) (store : List Anchor) (checked : KeptCertificate) (pool : List KeptCertificate)
+    (answer : Answer)
     → read ≡ octets → (anchors : List KeptCertificate) × (store ≡ map code_anchor anchors) × AreGiven job.number read anchors checked pool
     → IsSearchResult (IsAnchoredPath judge job.date checked pool store job.purpose) answer → IsAnswerTo judge job octets answer
 found_answer judge job read octets store checked pool Unread same given h = absurd h
@@ -84,7 +87,8 @@ found_answer judge job read octets store checked pool NoPath same given h = reco
 -- ---- acceptance
 
 module _ (words : List (List ℕ)) (shelf shelf_now : ShelfState) (held held_now : Option (List ℕ)) where
-  of_path : (job : Job) (contents : List (List ℕ)) (rows : List VerdictRow) (answer : Answer) → AsksFor words job → AreWholeFiles shelf.files (files_of job) contents
+  of_path : (job : Job) (contents : List (List ℕ)) (rows : List VerdictRow) (answer : Answer) → AsksFor words job
+      → AreWholeFiles shelf.files (files_of job) contents
       → HandsOut (total_length contents) shelf shelf_now → IsTable (table_in contents) rows → IsAnswerTo (verdict_of rows) job (certificates_in contents) answer
       → status_of answer ≡ 0 → Appends held (report_line answer) held_now → IsReportedPath words shelf shelf_now held held_now
   of_path job [] rows answer asked are given is_table is_answer zero written = absurd are
@@ -114,5 +118,6 @@ module _ (words : List (List ℕ)) (shelf shelf_now : ShelfState) (held held_now
   reported_path line h zero written =
       let read = h.2 in
       let returned = read.is_answered.is_answer in
-      of_path h.0 read.is_answered.contents returned.rows returned.answer h.1 read.is_answered.are_files read.given returned.is_table returned.is_answer (sym returned.status ∙ zero)
+      of_path h.0 read.is_answered.contents returned.rows returned.answer h.1 read.is_answered.are_files read.given returned.is_table returned.is_answer
+      (sym returned.status ∙ zero)
       (subst (λ (text : List ℕ). Appends held text held_now) returned.text written)

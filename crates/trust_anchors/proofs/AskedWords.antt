@@ -38,11 +38,13 @@ module _ (table purpose_text date_text number_text first : List ℕ) (others : L
 
   number_in : (job : Job) → AsksFor Words job → IsNumberWord number_text job.number
   number_in job asked =
-      subst (λ (w : List ℕ). IsNumberWord w job.number) (sym (same_number job.table (purpose_word job.purpose) asked.date_word asked.number_word job.certificates asked.words_are)) asked.number_is
+      subst (λ (w : List ℕ). IsNumberWord w job.number)
+      (sym (same_number job.table (purpose_word job.purpose) asked.date_word asked.number_word job.certificates asked.words_are)) asked.number_is
 
   date_in : (job : Job) → AsksFor Words job → IsDateWord date_text job.date
   date_in job asked =
-      subst (λ (w : List ℕ). IsDateWord w job.date) (sym (same_date job.table (purpose_word job.purpose) asked.date_word asked.number_word job.certificates asked.words_are)) asked.date_is
+      subst (λ (w : List ℕ). IsDateWord w job.date)
+      (sym (same_date job.table (purpose_word job.purpose) asked.date_word asked.number_word job.certificates asked.words_are)) asked.date_is
 
   -- without a number they are no command
   pub no_number : ((number : ℕ) → IsNumberWord number_text number → ⊥) → AsksForNothing Words
@@ -56,8 +58,10 @@ module _ (table purpose_text date_text number_text first : List ℕ) (others : L
   only_job purpose date number purposes dates numbers more is job asked =
       let are = asked.words_are in
       let same_table : table ≡ job.table = (cc) in
-      let one_purpose : purpose ≡ job.purpose = (let one = purposes job.purpose (same_purpose job.table (purpose_word job.purpose) asked.date_word asked.number_word job.certificates are) in cc) in
+      let one_purpose : purpose ≡ job.purpose =
+      (let one = purposes job.purpose (same_purpose job.table (purpose_word job.purpose) asked.date_word asked.number_word job.certificates are) in cc) in
       let one_date : date ≡ job.date = (let one = dates job.date (date_in job asked) in cc) in
       let one_number : more + 1 ≡ job.number = (let one = numbers job.number (number_in job asked) in cc) in
-      let certificates : first ∷ others ≡ job.certificates = same_certificates job.table (purpose_word job.purpose) asked.date_word asked.number_word job.certificates are in
+      let certificates : first ∷ others ≡ job.certificates =
+      same_certificates job.table (purpose_word job.purpose) asked.date_word asked.number_word job.certificates are in
       λ i. Some (record { table = same_table i; purpose = one_purpose i; date = one_date i; number = one_number i; certificates = certificates i })

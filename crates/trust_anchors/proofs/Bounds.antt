@@ -19,7 +19,8 @@ pub one_more_length : (k next x : ℕ) → next ≡ suc k → next * x ≡ k * x
 one_more_length k next x e = ap (λ (n : ℕ). n * x) e ∙ mul_comm (suc k) x ∙ mul-suc x k ∙ ap (λ (p : ℕ). p + x) (mul_comm x k)
 
 -- after one length more, with the anchors verified for each of its trails, then the certificates
-pub one_more_counted : (c d n m x number from before between now : ℕ) → c * m + n * c ≤ x → d ≡ c → before ≤ from + number * x → between ≤ before + c * m → now ≤ between + n * d
+pub one_more_counted : (c d n m x number from before between now : ℕ) → c * m + n * c ≤ x → d ≡ c → before ≤ from + number * x → between ≤ before + c * m
+    → now ≤ between + n * d
     → now ≤ from + (number + 1) * x
 one_more_counted c d n m x number from before between now most same p q r =
     let turn : n * d ≡ n * c = ap (λ (k : ℕ). n * k) same in

@@ -8,15 +8,18 @@ use Rattle.x509_core.specs.KeptCertificate.{KeptCertificate}
 use Rattle.trust_anchors.specs.AnchoredPath.{AreAt}
 use Rattle.trust_anchors.specs.Inside.Trails.{end_from}
 
-pub end_more : (pool : List KeptCertificate) (end : Option KeptCertificate) (indices : List ℕ) (index : ℕ) → end_from pool end (indices ++ index ∷ []) ≡ slice_get pool index
+pub end_more : (pool : List KeptCertificate) (end : Option KeptCertificate) (indices : List ℕ) (index : ℕ)
+    → end_from pool end (indices ++ index ∷ []) ≡ slice_get pool index
 end_more pool end [] index = refl
 end_more pool end (i ∷ indices) index = end_more pool (slice_get pool i) indices index
 
-end_by_place : (pool : List KeptCertificate) (i j : ℕ) (rest : List ℕ) (n index : ℕ) → n ≡ suc (suc (length rest) - 1) → slice_get (i ∷ j ∷ rest) n ≡ Some index → slice_get (j ∷ rest) (suc (length rest) - 1) ≡ Some index
+end_by_place : (pool : List KeptCertificate) (i j : ℕ) (rest : List ℕ) (n index : ℕ) → n ≡ suc (suc (length rest) - 1) → slice_get (i ∷ j ∷ rest) n ≡ Some index
+    → slice_get (j ∷ rest) (suc (length rest) - 1) ≡ Some index
 end_by_place pool i j rest n index e is = subst (λ (k : ℕ). slice_get (i ∷ j ∷ rest) k ≡ Some index) e is
 
 -- the end is the certificate at the last index
-pub end_by_last : (pool : List KeptCertificate) (end : Option KeptCertificate) (indices : List ℕ) (index : ℕ) → slice_get indices (length indices - 1) ≡ Some index → end_from pool end indices ≡ slice_get pool index
+pub end_by_last : (pool : List KeptCertificate) (end : Option KeptCertificate) (indices : List ℕ) (index : ℕ)
+    → slice_get indices (length indices - 1) ≡ Some index → end_from pool end indices ≡ slice_get pool index
 end_by_last pool end [] index e = absurd cc
 end_by_last pool end (i ∷ []) index e =
     let same : i ≡ index = cc in
@@ -33,7 +36,8 @@ within_pool pool index some = by (cases_lt index (length pool))
     by (inr past) = absurd (false≢true (subst (λ (o : Option KeptCertificate). IsSome o) (slice_get_past pool index past) some))
 
 -- the end is the last certificate of the chain
-pub end_at : (pool : List KeptCertificate) (checked : KeptCertificate) (indices : List ℕ) (certificates : List KeptCertificate) → AreAt pool indices certificates
+pub end_at : (pool : List KeptCertificate) (checked : KeptCertificate) (indices : List ℕ) (certificates : List KeptCertificate)
+    → AreAt pool indices certificates
     → end_from pool (Some checked) indices ≡ Some (last_of checked certificates)
 end_at pool checked [] [] e = refl
 end_at pool checked [] (x ∷ xs) e = absurd cc
@@ -43,7 +47,8 @@ end_at pool checked (i ∷ indices) (x ∷ xs) e =
     let rest : AreAt pool indices xs = cc in
     subst (λ (end : Option KeptCertificate). end_from pool end indices ≡ Some (last_of x xs)) (sym head) (end_at pool x indices xs rest)
 
-pub as_many : (pool : List KeptCertificate) (indices : List ℕ) (certificates : List KeptCertificate) → AreAt pool indices certificates → length indices ≡ length certificates
+pub as_many : (pool : List KeptCertificate) (indices : List ℕ) (certificates : List KeptCertificate) → AreAt pool indices certificates
+    → length indices ≡ length certificates
 as_many pool [] [] e = refl
 as_many pool [] (x ∷ xs) e = absurd cc
 as_many pool (i ∷ indices) [] e = absurd cc
@@ -70,13 +75,15 @@ pub record SplitAt (pool : List KeptCertificate) (indices : List ℕ) (index : �
   pub at : AreAt pool indices before
   pub is : slice_get pool index ≡ Some last
 
-split_more : (pool : List KeptCertificate) (i : ℕ) (indices : List ℕ) (index : ℕ) (x : KeptCertificate) (xs : List KeptCertificate) → slice_get pool i ≡ Some x → SplitAt pool indices index xs
+split_more : (pool : List KeptCertificate) (i : ℕ) (indices : List ℕ) (index : ℕ) (x : KeptCertificate) (xs : List KeptCertificate) → slice_get pool i ≡ Some x
+    → SplitAt pool indices index xs
     → SplitAt pool (i ∷ indices) index (x ∷ xs)
 split_more pool i indices index x xs head split =
     let at : AreAt pool indices split.before = split.at in
     record { before = x ∷ split.before; last = split.last; are = ap (λ (zs : List KeptCertificate). x ∷ zs) split.are; at = cc; is = split.is }
 
-pub split_at : (pool : List KeptCertificate) (indices : List ℕ) (index : ℕ) (certificates : List KeptCertificate) → AreAt pool (indices ++ index ∷ []) certificates
+pub split_at : (pool : List KeptCertificate) (indices : List ℕ) (index : ℕ) (certificates : List KeptCertificate)
+    → AreAt pool (indices ++ index ∷ []) certificates
     → SplitAt pool indices index certificates
 split_at pool [] index [] e = absurd cc
 split_at pool [] index (x ∷ []) e = record { before = []; last = x; are = refl; at = refl; is = cc }

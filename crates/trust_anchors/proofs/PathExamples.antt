@@ -74,7 +74,8 @@ module _ (judge : Judge) (date : GeneralizedTime) (leaf int root : KeptCertifica
   }
 
   -- no path ends at an anchor that is trusted for another purpose
-  pub of_another_purpose : (checked : KeptCertificate) (pool : List KeptCertificate) → HasNoPath (IsAnchoredPath judge date checked pool (anchor ∷ []) purposes.Time)
+  pub of_another_purpose : (checked : KeptCertificate) (pool : List KeptCertificate)
+      → HasNoPath (IsAnchoredPath judge date checked pool (anchor ∷ []) purposes.Time)
   of_another_purpose checked pool path is =
       false≢true (subst (λ (other : Anchor). IsTrue other.time) (sym (only_one anchor path.anchor is.anchor is.last)) is.serves)
 

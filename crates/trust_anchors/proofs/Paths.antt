@@ -10,7 +10,8 @@ use Rattle.x509_core.specs.Window.{IsWithinWindow}
 use Rattle.x509_core.specs.declared.window.DateCheck.TheVariants as dates
 use Rattle.trust_anchors.specs.AnchoredPath.{HasNoPath, IsAnchoredPath, checks_on, parents_of, window_on}
 use Rattle.trust_anchors.specs.FirstPath.{IsBefore, IsFirstPath, IsNotAfter}
-use Rattle.trust_anchors.specs.Inside.Trails.{EndsAtAnchor, HasAnchor, HasNoneShorter, IsAnchorAt, IsFirstSoFar, IsFirstWith, IsFound, IsLayer, IsUpTo, Sought, end_of}
+use Rattle.trust_anchors.specs.Inside.Trails.{EndsAtAnchor, HasAnchor, HasNoneShorter, IsAnchorAt, IsFirstSoFar}
+use Rattle.trust_anchors.specs.Inside.Trails.{IsFirstWith, IsFound, IsLayer, IsUpTo, Sought, end_of}
 use Rattle.trust_anchors.specs.declared.anchor.Anchor.{Anchor}
 use Rattle.trust_anchors.specs.declared.anchor.Purpose.{Purpose}
 use Rattle.trust_anchors.specs.declared.path.AnchoredPath.{AnchoredPath}
@@ -33,7 +34,8 @@ module _ (s : Sought) where
   path_anchor : (path : AnchoredPath) → EndsAtAnchor s path → HasAnchor s path.pool
   path_anchor path ends = (ends.child, path.anchor, ends.end, ends.last)
 
-  pub first_with : (number : ℕ) (layer : List (List ℕ)) (first : Option AnchoredPath) → IsLayer s number layer → IsFirstSoFar s layer first → IsFirstWith s number first
+  pub first_with : (number : ℕ) (layer : List (List ℕ)) (first : Option AnchoredPath) → IsLayer s number layer → IsFirstSoFar s layer first
+      → IsFirstWith s number first
   first_with number layer None is so_far = λ path ends long. (
       let good = is.complete path.pool ends.trail long in
       let long_is : length good.0 ≡ length path.pool = (is.sound good.0 good.1).1 ∙ sym long in
@@ -47,12 +49,15 @@ module _ (s : Sought) where
       cases other ends (inl before) = inl before
       cases other ends (inr same) =
           let own = so_far.anchor in
-          let child : own.0 ≡ ends.child = one_child other.pool own.0 ends.child (subst (λ (indices : List ℕ). end_of s indices ≡ Some own.0) same own.1) ends.end in
+          let child : own.0 ≡ ends.child =
+          one_child other.pool own.0 ends.child (subst (λ (indices : List ℕ). end_of s indices ≡ Some own.0) same own.1) ends.end in
           let at : IsAnchorAt s (length first.pool) own.0 other.anchor =
-          subst (λ (c : KeptCertificate). IsAnchorAt s (length first.pool) c other.anchor) (sym child) (subst (λ (indices : List ℕ). IsAnchorAt s (length indices) ends.child other.anchor) (sym same) ends.last) in
+          subst (λ (c : KeptCertificate). IsAnchorAt s (length first.pool) c other.anchor) (sym child)
+          (subst (λ (indices : List ℕ). IsAnchorAt s (length indices) ends.child other.anchor) (sym same) ends.last) in
           inr (same, least (cases_lt other.anchor first.anchor) at)
         where
-          least : (other.anchor < first.anchor) ⊎ (first.anchor ≤ other.anchor) → IsAnchorAt s (length first.pool) so_far.anchor.0 other.anchor → first.anchor ≤ other.anchor
+          least : (other.anchor < first.anchor) ⊎ (first.anchor ≤ other.anchor) → IsAnchorAt s (length first.pool) so_far.anchor.0 other.anchor
+              → first.anchor ≤ other.anchor
           least (inl less) at = absurd (so_far.anchor.2.1 other.anchor less at)
           least (inr up) at = up
 
@@ -74,7 +79,8 @@ module _ (s : Sought) where
       by (inr as_long) = none_with path ends (omega (arith, as_long, less, e))
 
   -- the search found none of this length either
-  pub none_found : (number next : ℕ) (found : Option AnchoredPath) → next ≡ suc number → ((path : AnchoredPath) → found ≡ Some path → ⊥) → HasNoneShorter s number → IsFirstWith s number found → HasNoneShorter s next
+  pub none_found : (number next : ℕ) (found : Option AnchoredPath) → next ≡ suc number → ((path : AnchoredPath) → found ≡ Some path → ⊥)
+      → HasNoneShorter s number → IsFirstWith s number found → HasNoneShorter s next
   none_found number next None e isnt none first = none_longer number next e none first
   none_found number next (Some path) e isnt none first = absurd (isnt path refl)
 
@@ -123,7 +129,8 @@ module _ (judge : Judge) (date : GeneralizedTime) (checked : KeptCertificate) (p
   }
 
   -- what the search found, if the certificate is valid
-  pub search_answers : (found : Option AnchoredPath) → IsWithinWindow (window_on date) checked.elements → IsFound searched found → MatchOption found (HasNoPath IsOne) (IsFirstPath IsOne)
+  pub search_answers : (found : Option AnchoredPath) → IsWithinWindow (window_on date) checked.elements → IsFound searched found
+      → MatchOption found (HasNoPath IsOne) (IsFirstPath IsOne)
   search_answers None valid none = λ path is. none path (anchored_ends path is) (omega (arith, is.few))
   search_answers (Some path) valid found = record {
     is = ends_anchored path valid found.1 found.2.0;
@@ -131,7 +138,8 @@ module _ (judge : Judge) (date : GeneralizedTime) (checked : KeptCertificate) (p
     first = λ other is long. found.2.2 other (anchored_ends other is) long;
   }
     where
-      by : (other : AnchoredPath) → IsOne other → (length other.pool < length path.pool) ⊎ (length path.pool ≤ length other.pool) → length path.pool ≤ length other.pool
+      by : (other : AnchoredPath) → IsOne other → (length other.pool < length path.pool) ⊎ (length path.pool ≤ length other.pool)
+          → length path.pool ≤ length other.pool
       by other is (inl less) = absurd (found.0 other (anchored_ends other is) less)
       by other is (inr up) = up
 

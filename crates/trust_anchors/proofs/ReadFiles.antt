@@ -1,5 +1,6 @@
 -- Reading the certificates of the files, one after another.
-use Rattle.std.proofs.Common.{◌≡◌, ℕ, zero, suc, ◌+◌, ◌<◌, ◌≤◌, List, [], ◌∷◌, ◌++◌, map, length, length-append, get_or, take, drop, append_assoc, refl, sym, ap, ap₂, subst, ◌∙◌, arith}
+use Rattle.std.proofs.Common.{◌≡◌, ℕ, zero, suc, ◌+◌, ◌<◌, ◌≤◌, List, [], ◌∷◌, ◌++◌, map, length, length-append}
+use Rattle.std.proofs.Common.{get_or, take, drop, append_assoc, refl, sym, ap, ap₂, subst, ◌∙◌, arith}
 use Rattle.std.proofs.lemmas.List.{map-append, take_all, take-append-drop}
 use Rattle.der_core.specs.Refusals.{RefusesOctets}
 use Rattle.key_core.specs.declared.element.Element.TheVariants as elements
@@ -34,13 +35,15 @@ unread_among ahead octets behind all read_error.NoCertificate are h = record {
   ahead = ahead ++ h.ahead;
   unread = h.unread;
   behind = h.behind ++ behind;
-  are = are ∙ ap (λ (xs : List (List ℕ)). ahead ++ (xs ++ behind)) h.are ∙ ap (λ (xs : List (List ℕ)). ahead ++ xs) (append_assoc h.ahead (h.unread ∷ h.behind) behind)
+  are = are ∙ ap (λ (xs : List (List ℕ)). ahead ++ (xs ++ behind)) h.are
+      ∙ ap (λ (xs : List (List ℕ)). ahead ++ xs) (append_assoc h.ahead (h.unread ∷ h.behind) behind)
       ∙ sym (append_assoc ahead h.ahead (h.unread ∷ (h.behind ++ behind)));
   isnt = h.isnt;
 }
 
 -- octets behind others aren't read
-pub unread_behind : (ahead : List (List ℕ)) (one : List ℕ) (octets all : List (List ℕ)) (r : ReadError) → all ≡ ahead ++ one ∷ octets → IsUnread octets r → IsUnread all r
+pub unread_behind : (ahead : List (List ℕ)) (one : List ℕ) (octets all : List (List ℕ)) (r : ReadError) → all ≡ ahead ++ one ∷ octets → IsUnread octets r
+    → IsUnread all r
 unread_behind ahead one octets all read_error.Memory are h = tt
 unread_behind ahead one octets all read_error.NoCertificate are h = record {
   ahead = ahead ++ one ∷ h.ahead;
@@ -67,7 +70,8 @@ later_unread first others all read_error.NoCertificate are h = record {
 
 -- the first is read, and all later ones
 pub read_behind : (octets : List ℕ) (others all : List (List ℕ)) (certificate : KeptCertificate) (before kept after : List KeptCertificate)
-    → all ≡ octets ∷ others → kept_octets certificate ≡ octets → kept ≡ before ++ certificate ∷ [] → AppendsRead kept after others → AppendsRead before after all
+    → all ≡ octets ∷ others → kept_octets certificate ≡ octets → kept ≡ before ++ certificate ∷ [] → AppendsRead kept after others
+    → AppendsRead before after all
 read_behind octets others all certificate before kept after are is pushed h = (
   certificate ∷ h.0,
   h.1 ∙ ap (λ (xs : List KeptCertificate). xs ++ h.0) pushed ∙ append_assoc before (certificate ∷ []) h.0,
@@ -75,7 +79,8 @@ read_behind octets others all certificate before kept after are is pushed h = (
 )
 
 pub anchors_behind : (octets : List ℕ) (others all : List (List ℕ)) (certificate : KeptCertificate) (before kept after : List Anchor)
-    → all ≡ octets ∷ others → kept_octets certificate ≡ octets → kept ≡ before ++ code_anchor certificate ∷ [] → AppendsAnchors kept after others → AppendsAnchors before after all
+    → all ≡ octets ∷ others → kept_octets certificate ≡ octets → kept ≡ before ++ code_anchor certificate ∷ [] → AppendsAnchors kept after others
+    → AppendsAnchors before after all
 anchors_behind octets others all certificate before kept after are is pushed h = (
   certificate ∷ h.0,
   h.1 ∙ ap (λ (xs : List Anchor). xs ++ map code_anchor h.0) pushed ∙ append_assoc before (code_anchor certificate ∷ []) (map code_anchor h.0),
@@ -90,7 +95,8 @@ last_anchor octets all certificate before after are is pushed = (certificate ∷
 -- ---- all certificates of a job
 
 -- the files after the first: other anchors, the certificate, the pool
-split_from : {W : Type 0} (text : W → List ℕ) (words : List W) (more n : ℕ) (word : W) (octets : List ℕ) → length words ≡ more + 1 + n → word ≡ get_or words more word → text word ≡ octets
+split_from : {W : Type 0} (text : W → List ℕ) (words : List W) (more n : ℕ) (word : W) (octets : List ℕ) → length words ≡ more + 1 + n
+    → word ≡ get_or words more word → text word ≡ octets
     → map text words ≡ map text (take more words) ++ octets ∷ map text (take n (drop (suc more) words))
 split_from text [] more n word octets many is said = absurd (omega (arith, many))
 split_from text (w ∷ words) zero n word octets many is said =
@@ -99,11 +105,13 @@ split_from text (w ∷ words) zero n word octets many is said =
 split_from text (w ∷ words) (suc more) n word octets many is said =
     ap (λ (xs : List (List ℕ)). text w ∷ xs) (split_from text words more n word octets (omega (arith, many)) is said)
 
-pub split_by : {W : Type 0} (text : W → List ℕ) (words : List W) (more n : ℕ) (word : W) (octets : List ℕ) → length words ≡ more + 1 + n → word ≡ get_or words more word → text word ≡ octets
+pub split_by : {W : Type 0} (text : W → List ℕ) (words : List W) (more n : ℕ) (word : W) (octets : List ℕ) → length words ≡ more + 1 + n
+    → word ≡ get_or words more word → text word ≡ octets
     → map text words ≡ map text (take more words) ++ octets ∷ map text (take n (drop (more + 1) words))
 split_by text words more n word octets many is said =
     let one : suc more ≡ more + 1 = omega arith in
-    subst (λ (k : ℕ). map text words ≡ map text (take more words) ++ octets ∷ map text (take n (drop k words))) one (split_from text words more n word octets many is said)
+    subst (λ (k : ℕ). map text words ≡ map text (take more words) ++ octets ∷ map text (take n (drop k words))) one
+    (split_from text words more n word octets many is said)
 
 pub front_of : {W : Type 0} (text : W → List ℕ) (words : List W) (more : ℕ) → map text words ≡ map text (take more words) ++ map text (drop more words)
 front_of text words more = ap (map text) (sym (take-append-drop more words)) ∙ map-append text (take more words) (drop more words)
@@ -124,7 +132,8 @@ same_length (r ∷ read) [] are = absurd cc
 same_length (r ∷ read) (o ∷ octets) are = ap suc (same_length read octets (cc))
 
 -- the pool has a certificate for each file behind those of the anchors and of the certificate
-pub count_pool : (number : ℕ) (octets : List (List ℕ)) (anchors : List KeptCertificate) (checked : KeptCertificate) (pool : List KeptCertificate) → AreGiven number octets anchors checked pool
+pub count_pool : (number : ℕ) (octets : List (List ℕ)) (anchors : List KeptCertificate) (checked : KeptCertificate) (pool : List KeptCertificate)
+    → AreGiven number octets anchors checked pool
     → number + 1 + length pool ≡ length octets
 count_pool number octets anchors checked pool given =
     let all : length (anchors ++ checked ∷ pool) ≡ length octets = same_length (anchors ++ checked ∷ pool) octets given.are in
@@ -132,8 +141,10 @@ count_pool number octets anchors checked pool given =
     omega (arith, all, both, given.count)
 
 -- what was read is given
-pub are_given : (number : ℕ) (front : List (List ℕ)) (octets : List ℕ) (back all : List (List ℕ)) (store : List Anchor) (checked : KeptCertificate) (pool before : List KeptCertificate) (none : List Anchor)
-    → all ≡ front ++ octets ∷ back → length front ≡ number → none ≡ [] → AppendsAnchors none store front → kept_octets checked ≡ octets → before ≡ [] → AppendsRead before pool back
+pub are_given : (number : ℕ) (front : List (List ℕ)) (octets : List ℕ) (back all : List (List ℕ)) (store : List Anchor) (checked : KeptCertificate)
+    (pool before : List KeptCertificate) (none : List Anchor)
+    → all ≡ front ++ octets ∷ back → length front ≡ number → none ≡ [] → AppendsAnchors none store front → kept_octets checked ≡ octets → before ≡ []
+    → AppendsRead before pool back
     → (anchors : List KeptCertificate) × (store ≡ map code_anchor anchors) × AreGiven number all anchors checked pool
 are_given number front octets back all store checked pool before none are many no_anchor anchors is no_other others = (
   anchors.0,
@@ -141,7 +152,8 @@ are_given number front octets back all store checked pool before none are many n
   record {
     count = same_length anchors.0 front anchors.2 ∙ many;
     are = map-append kept_octets anchors.0 (checked ∷ pool)
-        ∙ ap₂ (λ (xs ys : List (List ℕ)). xs ++ ys) anchors.2 (ap₂ (λ (x : List ℕ) (xs : List (List ℕ)). x ∷ xs) is (ap (map kept_octets) (others.1 ∙ ap (λ (xs : List KeptCertificate). xs ++ others.0) no_other) ∙ others.2))
+        ∙ ap₂ (λ (xs ys : List (List ℕ)). xs ++ ys) anchors.2 (ap₂ (λ (x : List ℕ) (xs : List (List ℕ)). x ∷ xs) is
+        (ap (map kept_octets) (others.1 ∙ ap (λ (xs : List KeptCertificate). xs ++ others.0) no_other) ∙ others.2))
         ∙ sym are;
   },
 )

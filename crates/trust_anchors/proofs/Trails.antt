@@ -1,5 +1,6 @@
 -- Trails that grow by one index, and their layers.
-use Rattle.std.proofs.Common.{◌≡◌, ◌⊎◌, ℕ, suc, ◌+◌, ◌<◌, ◌≤◌, List, [], ◌∷◌, ◌++◌, length, Option, Some, None, IfSome, inl, inr, refl, sym, ap, subst, ◌∙◌, arith, length-append}
+use Rattle.std.proofs.Common.{◌≡◌, ◌⊎◌, ℕ, suc, ◌+◌, ◌<◌, ◌≤◌, List, [], ◌∷◌, ◌++◌, length, Option, Some}
+use Rattle.std.proofs.Common.{None, IfSome, inl, inr, refl, sym, ap, subst, ◌∙◌, arith, length-append}
 use Rattle.std.specs.Prelude.{slice_get, Contains}
 use Rattle.std.proofs.lemmas.Bool.{cases_lt}
 use Rattle.std.proofs.lemmas.List.Elements.{Contains-append_left, Contains-push, Contains-push_cases}
@@ -17,7 +18,8 @@ use Rattle.trust_anchors.proofs.Orders.{up_to_before, up_to_itself, up_to_more, 
 
 module _ (holds : List ℕ → Type 0) (trails : List (List ℕ)) (trail : List ℕ) where
   -- the next trail is before the first one so far, and the rule holds for it
-  pub first_taken : (first : Option (List ℕ)) → IfSome first (IsBefore trail) → holds trail → IsFirstOf holds trails first → IsFirstOf holds (trails ++ trail ∷ []) (Some trail)
+  pub first_taken : (first : Option (List ℕ)) → IfSome first (IsBefore trail) → holds trail → IsFirstOf holds trails first
+      → IsFirstOf holds (trails ++ trail ∷ []) (Some trail)
   first_taken None before held none = (Contains-push trails trail, held, λ other has fits. by other fits (Contains-push_cases trails trail other has))
     where
       by : (other : List ℕ) → holds other → Contains trails other ⊎ (trail ≡ other) → IsUpTo trail other
@@ -36,7 +38,8 @@ module _ (holds : List ℕ → Type 0) (trails : List (List ℕ)) (trail : List 
       by : (other : List ℕ) → holds other → Contains trails other ⊎ (trail ≡ other) → ⊥
       by other fits (inl earlier) = none other earlier fits
       by other fits (inr same) = fails (subst holds (sym same) fits)
-  first_failed (Some first) fails least = (Contains-append_left trails (trail ∷ []) first least.0, least.1, λ other has fits. by other fits (Contains-push_cases trails trail other has))
+  first_failed (Some first) fails least =
+      (Contains-append_left trails (trail ∷ []) first least.0, least.1, λ other has fits. by other fits (Contains-push_cases trails trail other has))
     where
       by : (other : List ℕ) → holds other → Contains trails other ⊎ (trail ≡ other) → IsUpTo first other
       by other fits (inl earlier) = least.2 other earlier fits
@@ -45,7 +48,8 @@ module _ (holds : List ℕ → Type 0) (trails : List (List ℕ)) (trail : List 
   -- the next trail isn't before the first one so far
   pub first_kept : (first : Option (List ℕ)) → (IfSome first (IsBefore trail) → ⊥) → IsFirstOf holds trails first → IsFirstOf holds (trails ++ trail ∷ []) first
   first_kept None after none = absurd (after tt)
-  first_kept (Some first) after least = (Contains-append_left trails (trail ∷ []) first least.0, least.1, λ other has fits. by other fits (Contains-push_cases trails trail other has))
+  first_kept (Some first) after least =
+      (Contains-append_left trails (trail ∷ []) first least.0, least.1, λ other has fits. by other fits (Contains-push_cases trails trail other has))
     where
       by : (other : List ℕ) → holds other → Contains trails other ⊎ (trail ≡ other) → IsUpTo first other
       by other fits (inl earlier) = least.2 other earlier fits
@@ -65,16 +69,19 @@ module _ (s : Sought) where
   trail_end indices trail = end_at s.pool s.checked indices trail.parents trail.are
 
   -- a certificate that continues a trail, or an anchor, may have issued the last one of the chain
-  pub ends_linked : (indices : List ℕ) (trail : IsTrail s indices) (parent child : KeptCertificate) → end_of s indices ≡ Some child → Linking (length indices) parent child
+  pub ends_linked : (indices : List ℕ) (trail : IsTrail s indices) (parent child : KeptCertificate) → end_of s indices ≡ Some child
+      → Linking (length indices) parent child
       → IsLinkedChain s.judge s.window s.checked (trail.parents ++ parent ∷ [])
   ends_linked indices trail parent child end link =
       let ends : Some child ≡ Some (last_of s.checked trail.parents) = sym end ∙ trail_end indices trail in
       let same : child ≡ last_of s.checked trail.parents = cc in
       let long : length indices ≡ length trail.parents = as_many s.pool indices trail.parents trail.are in
       linked_more Linking s.checked trail.parents parent trail.linked
-      (subst (λ (n : ℕ). Linking n parent (last_of s.checked trail.parents)) long (subst (λ (c : KeptCertificate). Linking (length indices) parent c) same link))
+      (subst (λ (n : ℕ). Linking n parent (last_of s.checked trail.parents)) long
+      (subst (λ (c : KeptCertificate). Linking (length indices) parent c) same link))
 
-  pub trail_more : (indices : List ℕ) (index : ℕ) (parent : KeptCertificate) → IsTrail s indices → slice_get s.pool index ≡ Some parent → Continues s parent indices
+  pub trail_more : (indices : List ℕ) (index : ℕ) (parent : KeptCertificate) → IsTrail s indices → slice_get s.pool index ≡ Some parent
+      → Continues s parent indices
       → IsTrail s (indices ++ index ∷ [])
   trail_more indices index parent trail at continues = record {
     parents = trail.parents ++ parent ∷ [];
@@ -92,7 +99,8 @@ module _ (s : Sought) where
   pub trail_less : (indices : List ℕ) (index : ℕ) → IsTrail s (indices ++ index ∷ []) → Shorter indices index
   trail_less indices index trail =
       let split = split_at s.pool indices index trail.parents trail.are in
-      let linked : IsLinkedChain s.judge s.window s.checked (split.before ++ split.last ∷ []) = subst (IsLinkedChain s.judge s.window s.checked) split.are trail.linked in
+      let linked : IsLinkedChain s.judge s.window s.checked (split.before ++ split.last ∷ []) =
+      subst (IsLinkedChain s.judge s.window s.checked) split.are trail.linked in
       let link : Linking (length split.before) split.last (last_of s.checked split.before) = linked split.before [] split.last refl in
       let long : length split.before ≡ length indices = sym (as_many s.pool indices split.before split.at) in
       record {
@@ -145,7 +153,8 @@ module _ (s : Sought) where
   one_longer before last number long = omega (arith, long, length-append before (last ∷ []))
 
   -- all indices of the pool were tried
-  pub layer_ended : (number to : ℕ) (trails : List (List ℕ)) → length s.pool ≤ to → to ≤ length s.pool → IsLayerUpTo s number to trails → IsLayer s (number + 1) trails
+  pub layer_ended : (number to : ℕ) (trails : List (List ℕ)) → length s.pool ≤ to → to ≤ length s.pool → IsLayerUpTo s number to trails
+      → IsLayer s (number + 1) trails
   layer_ended number to trails all most up = record {
     sound = up.sound;
     complete = λ indices trail long. by indices trail long;
@@ -179,7 +188,8 @@ module _ (s : Sought) where
     pub continues : Continues s parent trail
     pub up_to : IsUpTo trail indices
 
-  good_below : (number index : ℕ) (layer : List (List ℕ)) (parent : KeptCertificate) (indices : List ℕ) → IsLayer s number layer → slice_get s.pool index ≡ Some parent
+  good_below : (number index : ℕ) (layer : List (List ℕ)) (parent : KeptCertificate) (indices : List ℕ) → IsLayer s number layer
+      → slice_get s.pool index ≡ Some parent
       → length indices ≡ number → IsTrail s (indices ++ index ∷ []) → GoodBelow parent layer indices number
   good_below number index layer parent indices is at long trail =
       let shorter = trail_less indices index trail in
@@ -196,7 +206,8 @@ module _ (s : Sought) where
       }
 
   -- no trail of the layer is continued by the certificate at the next index
-  pub layer_passed : (number to next : ℕ) (layer trails : List (List ℕ)) (parent : KeptCertificate) → next ≡ suc to → IsLayer s number layer → slice_get s.pool to ≡ Some parent
+  pub layer_passed : (number to next : ℕ) (layer trails : List (List ℕ)) (parent : KeptCertificate) → next ≡ suc to → IsLayer s number layer
+      → slice_get s.pool to ≡ Some parent
       → IsFirstOf (Continues s parent) layer None → IsLayerUpTo s number to trails → IsLayerUpTo s number next trails
   layer_passed number to next layer trails parent e is at none up = record {
     sound = up.sound;
@@ -204,7 +215,8 @@ module _ (s : Sought) where
     few = omega (arith, up.few, e);
   }
     where
-      by : (indices : List ℕ) (index : ℕ) → length indices ≡ number → IsTrail s (indices ++ index ∷ []) → index < next → (index < to) ⊎ (to ≤ index) → HasAsGood s trails (indices ++ index ∷ [])
+      by : (indices : List ℕ) (index : ℕ) → length indices ≡ number → IsTrail s (indices ++ index ∷ []) → index < next → (index < to) ⊎ (to ≤ index)
+          → HasAsGood s trails (indices ++ index ∷ [])
       by indices index long trail less (inl before) = up.complete indices index before long trail
       by indices index long trail less (inr after) =
           let here : index ≡ to = omega (arith, less, after, e) in
@@ -212,7 +224,8 @@ module _ (s : Sought) where
           absurd (none below.trail below.has below.continues)
 
   -- the first trail that the certificate at the next index continues was appended, longer by that index
-  pub layer_grown : (number to next : ℕ) (layer trails : List (List ℕ)) (parent : KeptCertificate) (first : List ℕ) → next ≡ suc to → IsLayer s number layer → slice_get s.pool to ≡ Some parent
+  pub layer_grown : (number to next : ℕ) (layer trails : List (List ℕ)) (parent : KeptCertificate) (first : List ℕ) → next ≡ suc to → IsLayer s number layer
+      → slice_get s.pool to ≡ Some parent
       → IsFirstOf (Continues s parent) layer (Some first) → IsLayerUpTo s number to trails → IsLayerUpTo s number next (trails ++ (first ++ to ∷ []) ∷ [])
   layer_grown number to next layer trails parent first e is at found up =
       let low = is.sound first found.0 in
@@ -224,18 +237,21 @@ module _ (s : Sought) where
         few = omega (arith, up.few, e, length-append trails ((first ++ to ∷ []) ∷ []));
       }
     where
-      sound_by : (trail : List ℕ) → IsTrail s (first ++ to ∷ []) → length (first ++ to ∷ []) ≡ number + 1 → Contains trails trail ⊎ ((first ++ to ∷ []) ≡ trail) → IsTrail s trail × (length trail ≡ number + 1)
+      sound_by : (trail : List ℕ) → IsTrail s (first ++ to ∷ []) → length (first ++ to ∷ []) ≡ number + 1 → Contains trails trail ⊎ ((first ++ to ∷ []) ≡ trail)
+          → IsTrail s trail × (length trail ≡ number + 1)
       sound_by trail grown long (inl earlier) = up.sound trail earlier
       sound_by trail grown long (inr same) = subst (λ (t : List ℕ). IsTrail s t × (length t ≡ number + 1)) same (grown, long)
 
       by : (indices : List ℕ) (index : ℕ) → length indices ≡ number → IsTrail s (indices ++ index ∷ []) → index < next → (index < to) ⊎ (to ≤ index)
           → HasAsGood s (trails ++ (first ++ to ∷ []) ∷ []) (indices ++ index ∷ [])
-      by indices index long trail less (inl before) = as_good_more trails (first ++ to ∷ []) (indices ++ index ∷ []) (up.complete indices index before long trail)
+      by indices index long trail less (inl before) =
+          as_good_more trails (first ++ to ∷ []) (indices ++ index ∷ []) (up.complete indices index before long trail)
       by indices index long trail less (inr after) =
           let here : index ≡ to = omega (arith, less, after, e) in
           let below = good_below number index layer parent indices is (subst (λ (n : ℕ). slice_get s.pool n ≡ Some parent) (sym here) at) long trail in
           let up_to : IsUpTo first indices = up_to_trans first below.trail indices (found.2 below.trail below.has below.continues) below.up_to in
           let long_first : length first ≡ length indices = (is.sound first found.0).1 ∙ sym long in
-          let ends : end_of s (first ++ to ∷ []) ≡ end_of s (indices ++ to ∷ []) = end_more s.pool (Some s.checked) first to ∙ sym (end_more s.pool (Some s.checked) indices to) in
+          let ends : end_of s (first ++ to ∷ []) ≡ end_of s (indices ++ to ∷ []) =
+          end_more s.pool (Some s.checked) first to ∙ sym (end_more s.pool (Some s.checked) indices to) in
           subst (λ (n : ℕ). HasAsGood s (trails ++ (first ++ to ∷ []) ∷ []) (indices ++ n ∷ [])) (sym here)
           (first ++ to ∷ [], Contains-push trails (first ++ to ∷ []), ends, up_to_more first indices to long_first up_to)

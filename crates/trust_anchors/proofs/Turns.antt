@@ -1,5 +1,6 @@
 -- One turn of each loop of the search.
-use Rattle.std.proofs.Common.{Bool, ◌≡◌, ◌≢◌, ◌⊎◌, ◌↔◌, ℕ, suc, ◌+◌, ◌<◌, ◌≤◌, List, [], ◌∷◌, ◌++◌, get_or, length, take, Option, Some, None, IfSome, IsSome, IsTrue, false, inl, inr, refl, sym, ap, subst, ◌∙◌, arith, add-one}
+use Rattle.std.proofs.Common.{Bool, ◌≡◌, ◌≢◌, ◌⊎◌, ◌↔◌, ℕ, suc, ◌+◌, ◌<◌, ◌≤◌, List, [], ◌∷◌, ◌++◌, get_or, length, take, Option}
+use Rattle.std.proofs.Common.{Some, None, IfSome, IsSome, IsTrue, false, inl, inr, refl, sym, ap, subst, ◌∙◌, arith, add-one}
 use Rattle.std.specs.Prelude.{slice_get, Contains, MatchResult, Result, Ok, Err, is_err}
 use Rattle.std.proofs.lemmas.Bool.{cases_lt, false≢true}
 use Rattle.std.proofs.lemmas.List.{take_all, take_more}
@@ -11,7 +12,8 @@ use Rattle.x509_core.specs.declared.error.CertError.{CertError}
 use Rattle.x509_core.specs.declared.error.CertError.TheVariants as errors
 use Rattle.trust_anchors.specs.Anchors.{Serves}
 use Rattle.trust_anchors.specs.FirstPath.{IsBefore}
-use Rattle.trust_anchors.specs.Inside.Trails.{Continues, HasAnchor, HasFirstAnchor, HasNoAnchorBefore, IsAnchorAt, IsFirstAnchor, IsFirstOf, IsFirstSoFar, IsLayer, Sought, end_of, indices_in}
+use Rattle.trust_anchors.specs.Inside.Trails.{Continues, HasAnchor, HasFirstAnchor, HasNoAnchorBefore, IsAnchorAt}
+use Rattle.trust_anchors.specs.Inside.Trails.{IsFirstAnchor, IsFirstOf, IsFirstSoFar, IsLayer, Sought, end_of, indices_in}
 use Rattle.trust_anchors.specs.declared.anchor.Anchor.{Anchor}
 use Rattle.trust_anchors.specs.declared.path.AnchoredPath.{AnchoredPath}
 use Rattle.trust_anchors.proofs.Trails.{Linking, first_failed, first_kept, first_taken, trail_end}
@@ -29,7 +31,8 @@ module _ {X : Type 0} (xs : List X) where
 
 module _ {X : Type 0} (xs : List X) where
   -- what held of the members so far leads to what holds with the next one
-  pub turned : (F G : List X → Type 0) (i next : ℕ) (x : X) → next ≡ suc i → i < length xs → x ≡ get_or xs i x → ((some : List X) → F some → G (some ++ x ∷ [])) → F (take i xs) → G (take next xs)
+  pub turned : (F G : List X → Type 0) (i next : ℕ) (x : X) → next ≡ suc i → i < length xs → x ≡ get_or xs i x → ((some : List X) → F some → G (some ++ x ∷ []))
+      → F (take i xs) → G (take next xs)
   turned F G i next x e less is turn held = subst G (take_next xs i next x e less is) (turn (take i xs) held)
 
   -- what holds of the members so far holds of all, after the last one
@@ -37,7 +40,8 @@ module _ {X : Type 0} (xs : List X) where
   ended F i all held = subst F (take_all i xs all) held
 
 -- a link isn't one if a rule of it is broken
-pub refused_link : (Link : Type 0) (Broken : CertError → Type 0) (e : CertError) → (Link → Broken e → ⊥) → OrMemory errors.Memory Broken e → e ≢ errors.Memory → Link → ⊥
+pub refused_link : (Link : Type 0) (Broken : CertError → Type 0) (e : CertError) → (Link → Broken e → ⊥) → OrMemory errors.Memory Broken e
+    → e ≢ errors.Memory → Link → ⊥
 refused_link Link Broken e law (inl broken) other link = law link broken
 refused_link Link Broken e law (inr memory) other link = other memory
 
@@ -70,7 +74,8 @@ module _ (s : Sought) (number : ℕ) (child : KeptCertificate) where
       let same : over.0 ≡ anchor = cc in
       fails (subst IsOver same (over.2, over.3))
 
-  pub none_before_next : (index next : ℕ) (anchor : Anchor) → next ≡ suc index → HasNoAnchorBefore s number child index → slice_get s.anchors index ≡ Some anchor → (IsOver anchor → ⊥)
+  pub none_before_next : (index next : ℕ) (anchor : Anchor) → next ≡ suc index → HasNoAnchorBefore s number child index
+      → slice_get s.anchors index ≡ Some anchor → (IsOver anchor → ⊥)
       → HasNoAnchorBefore s number child next
   none_before_next index next anchor e none at fails other less over = by (cases_lt other index)
     where
@@ -86,10 +91,12 @@ module _ (s : Sought) (number : ℕ) (child : KeptCertificate) where
 -- ---- certificates
 
 module _ (s : Sought) (parent : KeptCertificate) where
-  pub continues_by : (number : ℕ) (trail : List ℕ) (child : KeptCertificate) → length trail ≡ number → end_of s trail ≡ Some child → Linking s number parent child → Continues s parent trail
+  pub continues_by : (number : ℕ) (trail : List ℕ) (child : KeptCertificate) → length trail ≡ number → end_of s trail ≡ Some child
+      → Linking s number parent child → Continues s parent trail
   continues_by number trail child long end link = (child, end, subst (λ (n : ℕ). Linking s n parent child) (sym long) link)
 
-  pub continues_not : (number : ℕ) (trail : List ℕ) (child : KeptCertificate) → length trail ≡ number → end_of s trail ≡ Some child → (Linking s number parent child → ⊥) → Continues s parent trail → ⊥
+  pub continues_not : (number : ℕ) (trail : List ℕ) (child : KeptCertificate) → length trail ≡ number → end_of s trail ≡ Some child
+      → (Linking s number parent child → ⊥) → Continues s parent trail → ⊥
   continues_not number trail child long end fails continues =
       let some : Some continues.0 ≡ Some child = sym continues.1 ∙ end in
       let same : continues.0 ≡ child = cc in
@@ -115,7 +122,8 @@ module _ (s : Sought) (trails : List (List ℕ)) (trail : List ℕ) where
     anchor = so_far.anchor;
   }
 
-  pub path_failed : (first : Option AnchoredPath) (number : ℕ) (child : KeptCertificate) → length trail ≡ number → end_of s trail ≡ Some child → IsFirstAnchor s number child None
+  pub path_failed : (first : Option AnchoredPath) (number : ℕ) (child : KeptCertificate) → length trail ≡ number → end_of s trail ≡ Some child
+      → IsFirstAnchor s number child None
       → IsFirstSoFar s trails first → IsFirstSoFar s (trails ++ trail ∷ []) first
   path_failed first number child long end none so_far = record {
     least = first_failed (HasAnchor s) trails trail (indices_in first) fails so_far.least;
@@ -128,13 +136,16 @@ module _ (s : Sought) (trails : List (List ℕ)) (trail : List ℕ) where
           let same : has.0 ≡ child = cc in
           none has.1 (subst (λ (n : ℕ). IsAnchorAt s n child has.1) long (subst (λ (c : KeptCertificate). IsAnchorAt s (length trail) c has.1) same has.3))
 
-  pub path_taken : (first : Option AnchoredPath) (number : ℕ) (child : KeptCertificate) (path : AnchoredPath) → length trail ≡ number → end_of s trail ≡ Some child → path.pool ≡ trail
+  pub path_taken : (first : Option AnchoredPath) (number : ℕ) (child : KeptCertificate) (path : AnchoredPath) → length trail ≡ number
+      → end_of s trail ≡ Some child → path.pool ≡ trail
       → IsFirstAnchor s number child (Some path.anchor) → IsBeforeFirst first → IsFirstSoFar s trails first → IsFirstSoFar s (trails ++ trail ∷ []) (Some path)
   path_taken first number child path long end same over before so_far =
       let here : IsFirstAnchor s (length trail) child (Some path.anchor) = subst (λ (n : ℕ). IsFirstAnchor s n child (Some path.anchor)) (sym long) over in
       let has : HasAnchor s trail = (child, path.anchor, end, here.0) in
-      let own : HasFirstAnchor s path = subst (λ (indices : List ℕ). (c : KeptCertificate) × (end_of s indices ≡ Some c) × IsFirstAnchor s (length indices) c (Some path.anchor)) (sym same) (child, end, here) in
-      let taken : IsFirstOf (HasAnchor s) (trails ++ trail ∷ []) (Some trail) = first_taken (HasAnchor s) trails trail (indices_in first) (before_path first before) has so_far.least in
+      let own : HasFirstAnchor s path = subst (λ (indices : List ℕ). (c : KeptCertificate) × (end_of s indices ≡ Some c)
+      × IsFirstAnchor s (length indices) c (Some path.anchor)) (sym same) (child, end, here) in
+      let taken : IsFirstOf (HasAnchor s) (trails ++ trail ∷ []) (Some trail) =
+      first_taken (HasAnchor s) trails trail (indices_in first) (before_path first before) has so_far.least in
       record {
         least = subst (λ (indices : List ℕ). IsFirstOf (HasAnchor s) (trails ++ trail ∷ []) (Some indices)) (sym same) taken;
         anchor = own;

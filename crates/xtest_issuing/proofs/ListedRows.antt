@@ -28,8 +28,10 @@ inner true true true d e = (refl, refl)
 same : (a b : List ℕ) → bytes_eq a b ≡ true → a ≡ b
 same a b e = (bytes_eq-Decides a b).0 e
 
-module _ (rows : List WholeRow) (history : History) (certificates : List KeptCertificate) (listed : AreListed history certificates rows) (own : HaveOwnKeys certificates) where
-  one_of : (signer : ℕ) (parent : KeptCertificate) (msg : List ℕ) (row : WholeRow) → HasCert certificates signer parent → HasKeyBytes parent row.key → msg ≡ row.msg
+module _ (rows : List WholeRow) (history : History) (certificates : List KeptCertificate) (listed : AreListed history certificates rows)
+    (own : HaveOwnKeys certificates) where
+  one_of : (signer : ℕ) (parent : KeptCertificate) (msg : List ℕ) (row : WholeRow) → HasCert certificates signer parent → HasKeyBytes parent row.key
+      → msg ≡ row.msg
       → IsListed history certificates row → IsOneOf history certificates signer msg
   one_of signer parent msg row has key message found =
       let same_signer = own found.signer signer found.parent parent row.key found.has has found.key key in
@@ -48,6 +50,7 @@ module _ (rows : List WholeRow) (history : History) (certificates : List KeptCer
       let found = Any-from_list_any test rows (accepts (list_any test rows) accepted.judged) in
       let row = found.1 in
       let is_listed : IsListed history certificates row = subst (IsListed history certificates) found.3 (listed found.0 row found.2) in
-      let parts = inner (bytes_eq (name_of accepted.alg) (name_of row.alg)) (bytes_eq accepted.bytes row.key) (bytes_eq msg row.msg) (bytes_eq signature row.sig) found.4 in
+      let parts =
+      inner (bytes_eq (name_of accepted.alg) (name_of row.alg)) (bytes_eq accepted.bytes row.key) (bytes_eq msg row.msg) (bytes_eq signature row.sig) found.4 in
       let known : HasKeyBytes parent accepted.bytes = record { info = info; has = key; algorithm = algorithm; alg = accepted.alg; fits = accepted.fits } in
       one_of signer parent msg row has (subst (HasKeyBytes parent) (same accepted.bytes row.key parts.0) known) (same msg row.msg parts.1) is_listed

@@ -8,4 +8,5 @@ returns-clause-usable g c =
 pub returns-clause-accepted : goal.returns-clause-accepted
 returns-clause-accepted g c = λ is.
     let register = c.args.register.now in
-    accepted_by register.entries.items c.args.place c.args.date.now _ _ c.in-Some.ensures (g.S.Scheme.judge register.scheme) register.certificates.items is c.requires.within c.is_between.result c.is_between.ensures
+    accepted_by register.entries.items c.args.place c.args.date.now _ _ c.in-Some.ensures (g.S.Scheme.judge register.scheme)
+    register.certificates.items is c.requires.within c.is_between.result c.is_between.ensures

@@ -15,11 +15,15 @@ returns-clause-filled c =
     let lines = map line_held c.args.lines.now in
     let register = c.args.register.now in
     let at = line_at c.args.lines.now c.args.place held c.requires.within c.index-lines-place.is in
-    child_filled lines c.args.place (line_held held) at c.requires.each c.args.issuer (c.requires.by (line_held held) at) _ (c.args.place + 1) (omega (arith, c.requires.few, c.requires.within)) (omega arith)
+    child_filled lines c.args.place (line_held held) at c.requires.each c.args.issuer (c.requires.by (line_held held) at) _ (c.args.place + 1)
+    (omega (arith, c.requires.few, c.requires.within)) (omega arith)
     (omega (arith, c.requires.few, c.requires.within)) c.grant_of.result c.grant_of.ensures c.in_ok-name.name c.in_ok-name.ensures c.in_ok-key.key
-    (ok_holds (λ own. (private : PrivateKey) × AreLineKeys held.key private (info_of own)) _ c.public_key_of.result c.in_ok-key.key c.in_ok-key.ensures c.public_key_of.ensures)
-    c.signer_of.result c.signer_of.ensures c.in_ok-signer.signer (ok_holds (IsPrivatePkcs1 (key_secret c.signer_of.result)) _ c.private_key_of.result c.in_ok-signer.signer c.in_ok-signer.ensures c.private_key_of.ensures)
-    register.entries.items register.certificates.items (kept_all demo_verdict register.entries.items register.certificates.items register.kept) c.requires.filled c.child.result _ _ c.child.ensures.answer c.child.ensures.added
+    (ok_holds (λ own. (private : PrivateKey) × AreLineKeys held.key private (info_of own)) _ c.public_key_of.result c.in_ok-key.key c.in_ok-key.ensures
+    c.public_key_of.ensures)
+    c.signer_of.result c.signer_of.ensures c.in_ok-signer.signer
+    (ok_holds (IsPrivatePkcs1 (key_secret c.signer_of.result)) _ c.private_key_of.result c.in_ok-signer.signer c.in_ok-signer.ensures c.private_key_of.ensures)
+    register.entries.items register.certificates.items (kept_all demo_verdict register.entries.items register.certificates.items register.kept)
+    c.requires.filled c.child.result _ _ c.child.ensures.answer c.child.ensures.added
 
 pub returns-clause-refused : goal.returns-clause-refused
 returns-clause-refused c =
@@ -27,8 +31,12 @@ returns-clause-refused c =
     let lines = map line_held c.args.lines.now in
     let register = c.args.register.now in
     let at = line_at c.args.lines.now c.args.place held c.requires.within c.index-lines-place.is in
-    child_unfilled lines c.args.place (line_held held) at c.requires.each c.args.issuer (c.requires.by (line_held held) at) _ (c.args.place + 1) (omega (arith, c.requires.few, c.requires.within)) (omega arith)
+    child_unfilled lines c.args.place (line_held held) at c.requires.each c.args.issuer (c.requires.by (line_held held) at) _ (c.args.place + 1)
+    (omega (arith, c.requires.few, c.requires.within)) (omega arith)
     (omega (arith, c.requires.few, c.requires.within)) c.grant_of.result c.grant_of.ensures c.in_ok-name.name c.in_ok-name.ensures c.in_ok-key.key
-    (ok_holds (λ own. (private : PrivateKey) × AreLineKeys held.key private (info_of own)) _ c.public_key_of.result c.in_ok-key.key c.in_ok-key.ensures c.public_key_of.ensures)
-    c.signer_of.result c.signer_of.ensures c.in_ok-signer.signer (ok_holds (IsPrivatePkcs1 (key_secret c.signer_of.result)) _ c.private_key_of.result c.in_ok-signer.signer c.in_ok-signer.ensures c.private_key_of.ensures)
-    register.entries.items register.certificates.items (kept_all demo_verdict register.entries.items register.certificates.items register.kept) c.requires.filled c.child.result c.child.ensures.answer c.child.ensures.paired
+    (ok_holds (λ own. (private : PrivateKey) × AreLineKeys held.key private (info_of own)) _ c.public_key_of.result c.in_ok-key.key c.in_ok-key.ensures
+    c.public_key_of.ensures)
+    c.signer_of.result c.signer_of.ensures c.in_ok-signer.signer
+    (ok_holds (IsPrivatePkcs1 (key_secret c.signer_of.result)) _ c.private_key_of.result c.in_ok-signer.signer c.in_ok-signer.ensures c.private_key_of.ensures)
+    register.entries.items register.certificates.items (kept_all demo_verdict register.entries.items register.certificates.items register.kept)
+    c.requires.filled c.child.result c.child.ensures.answer c.child.ensures.paired

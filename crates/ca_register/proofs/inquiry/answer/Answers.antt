@@ -14,8 +14,10 @@ use Rattle.ca_register.proofs.inquiry.answer.Goals as goal
 pub returns-in_err-text-clause-found : goal.returns-in_err-text-clause-found
 returns-in_err-text-clause-found g c =
     let p = err_from_is_err_and c.from_residual.result c.from_residual.ensures.1 in
-    rw (p.1, p.2) (IsInquiry-unread (g.F.Shelf.state c.args.shelf.now) (g.F.Shelf.state c.read_file.new.shelf) (question_of (job_held c.args.job.now)) c.in_err-text.field-0.0
-    (unread_first (g.F.Shelf.state c.args.shelf.now) (g.F.Shelf.state c.args.shelf.now) (g.F.Shelf.state c.read_file.new.shelf) c.args.job.now.file.now [] c.in_err-text.field-0.0
+    rw (p.1, p.2)
+    (IsInquiry-unread (g.F.Shelf.state c.args.shelf.now) (g.F.Shelf.state c.read_file.new.shelf) (question_of (job_held c.args.job.now)) c.in_err-text.field-0.0
+    (unread_first (g.F.Shelf.state c.args.shelf.now) (g.F.Shelf.state c.args.shelf.now) (g.F.Shelf.state c.read_file.new.shelf)
+    c.args.job.now.file.now [] c.in_err-text.field-0.0
     (λ fault. c.in_err-text.ensures.cause (ap Err fault))
     (λ quiet there fault. c.in_err-text.ensures.no_fault quiet there (ap Err fault))
     (λ long. c.in_err-text.ensures.more_given (ap Err long)) c.in_err-text.ensures.counted_given
@@ -28,7 +30,8 @@ returns-clause-found g c =
     let after = g.F.Shelf.state c.read_file.new.shelf in
     let same = sym c.deref.ensures.value in
     IsInquiry-read before after (question_of (job_held c.args.job.now)) (c.deref.result.now ∷ [])
-    (read_alone before after c.args.job.now.file.now c.deref.result.now (subst (IsWholeFile before.files c.args.job.now.file.now) same c.in_ok-text.ensures.whole) (subst (λ (octets : List ℕ). HandsOut (length octets) before after) same c.in_ok-text.ensures.given))
+    (read_alone before after c.args.job.now.file.now c.deref.result.now (subst (IsWholeFile before.files c.args.job.now.file.now)
+    same c.in_ok-text.ensures.whole) (subst (λ (octets : List ℕ). HandsOut (length octets) before after) same c.in_ok-text.ensures.given))
     c.report_on.result c.report_on.ensures.reported c.report_on.ensures.stopped c.report_on.ensures.only c.report_on.ensures.bad
 
 pub returns-clause-counted : goal.returns-clause-counted
@@ -37,7 +40,8 @@ returns-clause-counted g c words asked =
     let after = g.F.Shelf.state c.read_file.new.shelf in
     let same = sym c.deref.ensures.value in
     counts_for before after words (job_held c.args.job.now) asked c.deref.result.now
-    (subst (IsWholeFile before.files c.args.job.now.file.now) same c.in_ok-text.ensures.whole) (subst (λ (octets : List ℕ). HandsOut (length octets) before after) same c.in_ok-text.ensures.given)
+    (subst (IsWholeFile before.files c.args.job.now.file.now) same c.in_ok-text.ensures.whole)
+    (subst (λ (octets : List ℕ). HandsOut (length octets) before after) same c.in_ok-text.ensures.given)
     c.report_on.result c.report_on.ensures.counted
 
 pub returns-in_err-text-clause-once : goal.returns-in_err-text-clause-once

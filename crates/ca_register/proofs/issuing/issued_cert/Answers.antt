@@ -20,7 +20,8 @@ returns-in_err-issuer_cert-clause-answer g c = λ grant subject inherits certifi
 
 pub returns-in-Ok-clause-answer : goal.returns-in-Ok-clause-answer
 returns-in-Ok-clause-answer g c = λ grant subject inherits certificates issuer for has.
-    child_signed (arithmetic (g.S.Scheme.judge c.args.scheme.now) (g.S.Scheme.signs c.args.scheme.now) (g.S.Scheme.pair c.args.scheme.now)) c.args.word certificates issuer
+    child_signed (arithmetic (g.S.Scheme.judge c.args.scheme.now) (g.S.Scheme.signs c.args.scheme.now) (g.S.Scheme.pair c.args.scheme.now))
+    c.args.word certificates issuer
     (IsChildBuilder grant subject inherits c.args.issuer_key.now) c.args.parent.now has _
     (child_builder grant subject inherits c.args.issuer_key c.args.parent.now c.args.builder _ for c.requires.unidentified c.in_ok-issuer_cert.ensures.ok)
     c.in-Ok.cert c.in-Ok.ensures.answer c.signed_cert.result c.signed_cert.ensures
@@ -36,8 +37,10 @@ returns-in-Ok-clause-recorded g c =
     let under = c.in_ok-issuer_cert.ensures.ok in
     if_signed _ judge parent cert c.signed_cert.result c.signed_cert.ensures
     (λ by_key entry key granted had. ∥∥₁_map cert.spelled (λ are. (
-      recorded judge signs pair _ c.args.word cert built.answer are built.constrained built.identified built.distinct entry (granted_under entry.grant c.args.issuer_key parent c.args.builder _ granted under),
-      certified judge signs pair _ c.args.word cert built.answer are built.constrained built.identified built.distinct parent c.args.issuer_key c.args.builder under key had (c.in_ok-issuer_cert.ensures.identified key had) by_key,
+      recorded judge signs pair _ c.args.word cert built.answer are built.constrained built.identified built.distinct entry
+          (granted_under entry.grant c.args.issuer_key parent c.args.builder _ granted under),
+      certified judge signs pair _ c.args.word cert built.answer are built.constrained built.identified built.distinct parent c.args.issuer_key c.args.builder
+          under key had (c.in_ok-issuer_cert.ensures.identified key had) by_key,
     )))
 
 pub returns-in-Ok-clause-paired : goal.returns-in-Ok-clause-paired
@@ -48,15 +51,18 @@ returns-in-Ok-clause-paired g c = λ source paired is.
 pub returns-in-Err-clause-answer : goal.returns-in-Err-clause-answer
 returns-in-Err-clause-answer g c = λ grant subject inherits certificates issuer for has.
     rw c.unbuilt.ensures
-    (child_unbuilt (arithmetic (g.S.Scheme.judge c.args.scheme.now) (g.S.Scheme.signs c.args.scheme.now) (g.S.Scheme.pair c.args.scheme.now)) c.args.word certificates issuer
+    (child_unbuilt (arithmetic (g.S.Scheme.judge c.args.scheme.now) (g.S.Scheme.signs c.args.scheme.now) (g.S.Scheme.pair c.args.scheme.now))
+    c.args.word certificates issuer
     (IsChildBuilder grant subject inherits c.args.issuer_key.now) c.args.parent.now has _
-    (child_builder grant subject inherits c.args.issuer_key c.args.parent.now c.args.builder _ for c.requires.unidentified c.in_ok-issuer_cert.ensures.ok) c.in-Err.source c.in-Err.ensures.answer)
+    (child_builder grant subject inherits c.args.issuer_key c.args.parent.now c.args.builder _ for c.requires.unidentified c.in_ok-issuer_cert.ensures.ok)
+    c.in-Err.source c.in-Err.ensures.answer)
 
 pub returns-in-Err-clause-paired : goal.returns-in-Err-clause-paired
 returns-in-Err-clause-paired g c = λ source paired is. unbuilt_is_no_key c.in-Err.source source (sym c.unbuilt.ensures ∙ same_error _ _ is)
 
 pub signed_cert-requires : goal.signed_cert-requires
 signed_cert-requires g c = record {
-  named = names_algorithm (g.S.Scheme.judge c.args.scheme.now) (g.S.Scheme.signs c.args.scheme.now) (g.S.Scheme.pair c.args.scheme.now) _ c.args.word c.in-Ok.cert c.in-Ok.ensures.answer _
+  named = names_algorithm (g.S.Scheme.judge c.args.scheme.now) (g.S.Scheme.signs c.args.scheme.now)
+      (g.S.Scheme.pair c.args.scheme.now) _ c.args.word c.in-Ok.cert c.in-Ok.ensures.answer _
       (ap (λ (b : CertificateBuilder). b.signature_hash_type) c.in_ok-issuer_cert.ensures.ok.is ∙ c.requires.algorithm);
 }

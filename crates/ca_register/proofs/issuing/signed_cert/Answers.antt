@@ -22,7 +22,8 @@ pub returns-in-Err : goal.returns-in-Err
 returns-in-Err g c =
     let info = c.public_key-key.result.now.info in
     rw c.wrong_key.ensures
-    (signed_or_not (g.S.Scheme.judge c.args.scheme.now) c.args.parent.now c.args.cert (RsaPkcs1v15 SHA2_256) info c.tbs.result.now c.signature.result.now c.in-Err.source
+    (signed_or_not (g.S.Scheme.judge c.args.scheme.now) c.args.parent.now c.args.cert (RsaPkcs1v15 SHA2_256)
+    info c.tbs.result.now c.signature.result.now c.in-Err.source
     (signed_with c.args.parent.now c.args.cert (RsaPkcs1v15 SHA2_256) info c.public_key-key.ensures c.requires.named)
     (c.tbs.ensures ∙ ap signed_octets c.view-fields.ensures.elements)
     (c.signature.ensures ∙ ap (λ (f : CertificateElements). f.signature) c.view-fields.ensures.elements)

@@ -12,4 +12,5 @@ pub returns : goal.returns
 returns c =
     MatchResult-weaker c.from_pkcs1.result c.from_pkcs1.ensures.answer
     (λ key read. subst (λ octets. IsPrivatePkcs1 octets key) c.secret_of.ensures read)
-    (λ e refused. refused.1 ∙ ap (unread elements.RsaPrivateKey) (read_or_memory (c.args.number ∷ []) (one_octet c.args.number) refused.0 (subst (λ octets. RefusesOctets IsRsaPrivateKey octets refused.0) c.secret_of.ensures refused.2)))
+    (λ e refused. refused.1 ∙ ap (unread elements.RsaPrivateKey) (read_or_memory (c.args.number ∷ []) (one_octet c.args.number) refused.0
+    (subst (λ octets. RefusesOctets IsRsaPrivateKey octets refused.0) c.secret_of.ensures refused.2)))

@@ -12,7 +12,8 @@ use Rattle.ca_register.proofs.Yielding.{yields_rest}
 use Rattle.ca_register.proofs.verifying.verify_over.Goals as goal
 
 -- the result is that of the configured checks for the configured certificate
-answer_of : {T : Type 0} (judge : Judge) (given : Option (List KeptCertificate)) (a b : ChainChecks) (x y : KeptCertificate) (r : Result T CertError) → a ≡ b → x ≡ y
+answer_of : {T : Type 0} (judge : Judge) (given : Option (List KeptCertificate)) (a b : ChainChecks) (x y : KeptCertificate) (r : Result T CertError)
+    → a ≡ b → x ≡ y
     → MatchResult r (λ _. IsAccepted judge a x given) (RefusesCertBy (chain_rules judge a x given))
     → MatchResult r (λ _. IsAccepted judge b y given) (RefusesCertBy (chain_rules judge b y given))
 answer_of judge given a b x y r checks certificate h =

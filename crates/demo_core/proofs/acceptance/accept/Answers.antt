@@ -13,7 +13,8 @@ use Rattle.x509_core.specs.declared.window.DateCheck.TheVariants as dates
 use Rattle.demo_core.proofs.acceptance.accept.Goals as goal
 
 -- the result is that of the configured checks for the configured certificate
-answer_of : {T : Type 0} (judge : Judge) (given : Option (List KeptCertificate)) (a b : ChainChecks) (x y : KeptCertificate) (r : Result T CertError) → a ≡ b → x ≡ y
+answer_of : {T : Type 0} (judge : Judge) (given : Option (List KeptCertificate)) (a b : ChainChecks) (x y : KeptCertificate) (r : Result T CertError)
+    → a ≡ b → x ≡ y
     → MatchResult r (λ _. IsAccepted judge a x given) (RefusesCertBy (chain_rules judge a x given))
     → MatchResult r (λ _. IsAccepted judge b y given) (RefusesCertBy (chain_rules judge b y given))
 answer_of judge given a b x y r checks certificate h =
@@ -30,4 +31,5 @@ returns c =
     answer_of demo_verdict (Some c.args.parents.now) _ _ _ _ c.verify.result
     (c.chain.ensures.rest.0 ∙ c.exact_date.ensures.checks ∙ ap (checks_at (dates.Exact c.args.date.now)) c.verifier.ensures.checks)
     (c.chain.ensures.rest.1 ∙ c.exact_date.ensures.rest.1 ∙ c.verifier.ensures.cert)
-    (c.verify.ensures.answer (Some c.args.parents.now) (λ asked. given_by c.chain.result.chain c.iter.result c.args.parents.now c.chain.ensures.chain c.iter.ensures.rest))
+    (c.verify.ensures.answer (Some c.args.parents.now)
+    (λ asked. given_by c.chain.result.chain c.iter.result c.args.parents.now c.chain.ensures.chain c.iter.ensures.rest))

@@ -15,9 +15,11 @@ loop-k-preserved c =
     let more = map-range_with_len_more (λ index. step_from index (state_after c.args.count (4 * index))) 0 c.loop-k.k c.loop-k.k (omega arith) in
     let step = c.next_step.ensures.step ∙ ap (step_from c.loop-k.k) held.state in
     record {
-      steps = c.in_ok-push.ensures.items ∙ ap (λ s. s ++ c.next_step.result ∷ []) held.steps ∙ ap (λ s. map (λ index. step_from index (state_after c.args.count (4 * index))) (range_with_len 0 c.loop-k.k) ++ s ∷ []) step ∙ sym more;
+      steps = c.in_ok-push.ensures.items ∙ ap (λ s. s ++ c.next_step.result ∷ []) held.steps
+          ∙ ap (λ s. map (λ index. step_from index (state_after c.args.count (4 * index))) (range_with_len 0 c.loop-k.k) ++ s ∷ []) step ∙ sym more;
       state = c.next_step.ensures.state ∙ ap (λ s. state_after s 4) held.state ∙ sym (four_later c.args.count c.loop-k.k);
     }
 
 pub returns : goal.returns
-returns c = let last : c.loop-k.k ≡ c.args.count = omega arith in subst (λ k. c.loop-k.steps.items ≡ map (λ index. step_from index (state_after c.args.count (4 * index))) (range_with_len 0 k)) last c.loop-k.invariant.steps
+returns c = let last : c.loop-k.k ≡ c.args.count = omega arith in
+    subst (λ k. c.loop-k.steps.items ≡ map (λ index. step_from index (state_after c.args.count (4 * index))) (range_with_len 0 k)) last c.loop-k.invariant.steps

@@ -8,7 +8,8 @@ pub returns-in-Ok-clause-ends : goal.returns-in-Ok-clause-ends
 returns-in-Ok-clause-ends g c = delivered c.args.count c.in-Ok.report _ _ c.deliver.result c.in-Ok.ensures c.deliver.ensures.delivered
 
 pub returns-in-Ok-clause-unwritten : goal.returns-in-Ok-clause-unwritten
-returns-in-Ok-clause-unwritten g c seven = absurd (not_memory c.args.count c.in-Ok.report _ _ c.deliver.result c.in-Ok.ensures c.deliver.ensures.delivered seven)
+returns-in-Ok-clause-unwritten g c seven =
+    absurd (not_memory c.args.count c.in-Ok.report _ _ c.deliver.result c.in-Ok.ensures c.deliver.ensures.delivered seven)
 
 pub returns-in-Ok-clause-sink_once : goal.returns-in-Ok-clause-sink_once
 returns-in-Ok-clause-sink_once g c = c.deliver.ensures.once

@@ -13,4 +13,5 @@ pub returns : goal.returns
 returns c =
     MatchResult-weaker c.from_pkcs1.result c.from_pkcs1.ensures.answer
     (λ key read. subst (λ octets. IsPrivatePkcs1 octets key) c.secret_of.ensures read)
-    (λ e refused. refused.1 ∙ ap (unread elements.RsaPrivateKey) (read_or_memory (step_modulus c.args.index) (four_octets c.args.index) refused.0 (subst (λ octets. RefusesOctets IsRsaPrivateKey octets refused.0) c.secret_of.ensures refused.2)))
+    (λ e refused. refused.1 ∙ ap (unread elements.RsaPrivateKey) (read_or_memory (step_modulus c.args.index) (four_octets c.args.index) refused.0
+    (subst (λ octets. RefusesOctets IsRsaPrivateKey octets refused.0) c.secret_of.ensures refused.2)))

@@ -10,7 +10,8 @@ pub returns : goal.returns
 returns t c = IfOk-weaker c.append_under.result _ _ (λ done later.
     let pool = c.args.pool.now in
     let count = c.in-Some-split_first.length.now in
-    let more = one_more c.args.files.now.items _ c.append_under.new.files.items _ c.in-Some.name.now.now (map (λ n. n.now) c.in-Some.names.now) pool _ _ count c.in-Some-split_first.lengths.now
+    let more = one_more c.args.files.now.items _ c.append_under.new.files.items _ c.in-Some.name.now.now (map (λ n. n.now) c.in-Some.names.now)
+    pool _ _ count c.in-Some-split_first.lengths.now
     c.in_ok-push.ensures.items refl refl
     (c.split_at.ensures.front ∙ take_cut c.min.result count pool (omega (arith, c.min.ensures)))
     (c.split_at.ensures.back ∙ drop_cut c.min.result count pool (omega (arith, c.min.ensures))) later in

@@ -8,7 +8,8 @@ pub returns-in_err-checked : goal.returns-in_err-checked
 returns-in_err-checked g c =
     let p = err_from_is_err_and c.from_residual.result c.from_residual.ensures.1 in
     let others = map (λ octets. octets.items) c.args.parents.now in
-    rw (p.1, p.2) (inl (next_unread (c.args.checked.now ∷ others) (c.args.checked.now ∷ others) [] c.args.checked.now others refl refl c.in_err-checked.field-0.0 c.in_err-checked.ensures.answer))
+    rw (p.1, p.2) (inl (next_unread (c.args.checked.now ∷ others) (c.args.checked.now ∷ others)
+    [] c.args.checked.now others refl refl c.in_err-checked.field-0.0 c.in_err-checked.ensures.answer))
 
 pub returns : goal.returns
 returns g c =

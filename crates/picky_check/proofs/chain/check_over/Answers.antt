@@ -17,4 +17,5 @@ returns-in_err-accept g c =
 pub returns : goal.returns
 returns g c =
     accepted_over (g.S.Scheme.judge c.args.scheme.now) c.args.date.now (map (λ octets. octets.items) c.args.parents.now) c.args.checked.now
-    c.in_ok-read.read.items c.in_ok-read.ensures c.deref.result.now c.len.result c.deref.ensures.value (c.len.ensures ∙ sym c.deref.ensures.len) c.in_ok-accept.ensures
+    c.in_ok-read.read.items c.in_ok-read.ensures c.deref.result.now c.len.result c.deref.ensures.value (c.len.ensures ∙ sym c.deref.ensures.len)
+    c.in_ok-accept.ensures

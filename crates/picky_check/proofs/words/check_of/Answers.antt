@@ -16,7 +16,8 @@ pub returns-in_err-hash-clause-memory : goal.returns-in_err-hash-clause-memory
 returns-in_err-hash-clause-memory c _ =
     let are = check_words string_bytes c.args.words.now c.signature-item.result c.table-item.result c.hash-item.result c.date-item.result
     (string_bytes c.signature-item.result) (string_bytes c.table-item.result) c.as_str-2.result.now c.as_str.result.now
-    c.in-len4-up.len_at_least c.signature-item.is c.table-item.is c.hash-item.is c.date-item.is refl refl (sym c.as_str-2.ensures.value) (sym c.as_str.ensures.value) in
+    c.in-len4-up.len_at_least c.signature-item.is c.table-item.is c.hash-item.is c.date-item.is refl refl (sym c.as_str-2.ensures.value)
+    (sym c.as_str.ensures.value) in
     rw are (asks_check _ _ _ _ _ _ _ (some_is _ (c.in_err-hash.ensures.memory refl)) c.in-Some.ensures.said c.in-Some-options_of.ensures.answer)
 
 pub returns-clause-only : goal.returns-clause-only

@@ -10,7 +10,8 @@ use Rattle.picky_door.proofs.ask.ask_call.Goals as goal
 
 pub returns-clause-called : goal.returns-clause-called
 returns-clause-called c =
-    subst (λ (files : Files). IsCall command_line (lines_of c.args.words.now) files (length c.args.lines.now) (take c.call.result.written c.call.new.lines) c.call.result.status)
+    subst (λ (files : Files). IsCall command_line (lines_of c.args.words.now) files (length c.args.lines.now) (take c.call.result.written c.call.new.lines)
+    c.call.result.status)
     (λ i name. (ap (λ fs. lent_files fs name) c.deref.ensures.value ∙ c.in-Ok.ensures name
     ∙ ap (λ fs. option_or (lent_files fs name) (pooled_files c.args.pool.now c.args.lengths.now name)) c.new-files.ensures.items) i)
     c.call.ensures.called

@@ -13,7 +13,8 @@ hand_out-requires c =
     let shelf = c.new-shelf.ensures in
     let sink = c.in-Ok-with_room.ensures in
     let fits = line_fits (lent_files c.args.files.now) c.new-shelf.result shelf.files shelf.nothing_left shelf.none_given shelf.no_faults
-    command_line (map string_bytes c.deref.result.now) (length c.args.lines.now) (ask_low (lent_files c.args.files.now)) c.run-status.new.shelf c.in-Ok-with_room.sink c.run-status.new.out
+    command_line (map string_bytes c.deref.result.now) (length c.args.lines.now) (ask_low (lent_files c.args.files.now))
+    c.run-status.new.shelf c.in-Ok-with_room.sink c.run-status.new.out
     sink.empty sink.room sink.no_faults c.run-status.result c.run-status.ensures.ends in
     subst (λ (held : List ℕ). length held ≤ length c.args.lines.now) (sym c.held.ensures) fits
 
@@ -23,9 +24,13 @@ returns-clause-called c =
     let sink = c.in-Ok-with_room.ensures in
     let held = ap (λ (h : List ℕ). handed_line c.run-status.result h) c.held.ensures in
     let called = is_call (lent_files c.args.files.now) c.new-shelf.result shelf.files shelf.nothing_left shelf.none_given shelf.no_faults
-    command_line (map string_bytes c.deref.result.now) (length c.args.lines.now) (ask_low (lent_files c.args.files.now)) c.run-status.new.shelf c.in-Ok-with_room.sink c.run-status.new.out
-    sink.empty sink.room sink.no_faults c.run-status.result c.run-status.ensures.ends (take c.hand_out.result.written c.hand_out.new.buffer) (c.hand_out.ensures.line ∙ held) in
+    command_line (map string_bytes c.deref.result.now) (length c.args.lines.now) (ask_low (lent_files c.args.files.now))
+    c.run-status.new.shelf c.in-Ok-with_room.sink c.run-status.new.out
+    sink.empty sink.room sink.no_faults c.run-status.result c.run-status.ensures.ends (take c.hand_out.result.written c.hand_out.new.buffer)
+    (c.hand_out.ensures.line ∙ held) in
     let words = ap (λ ws. map string_bytes ws) c.deref.ensures.value ∙ c.in-Ok.ensures in
-    subst (λ (ws : List (List ℕ)). IsCall command_line ws (lent_files c.args.files.now) (length c.args.lines.now) (take c.hand_out.result.written c.hand_out.new.buffer) c.hand_out.result.status) words
-    (subst (λ (status : ℕ). IsCall command_line (map string_bytes c.deref.result.now) (lent_files c.args.files.now) (length c.args.lines.now) (take c.hand_out.result.written c.hand_out.new.buffer) status)
+    subst (λ (ws : List (List ℕ)). IsCall command_line ws (lent_files c.args.files.now) (length c.args.lines.now)
+    (take c.hand_out.result.written c.hand_out.new.buffer) c.hand_out.result.status) words
+    (subst (λ (status : ℕ). IsCall command_line (map string_bytes c.deref.result.now) (lent_files c.args.files.now) (length c.args.lines.now)
+    (take c.hand_out.result.written c.hand_out.new.buffer) status)
     (sym c.hand_out.ensures.status) called)

@@ -15,6 +15,7 @@ returns-clause-vouched_for c low =
 
 pub returns-clause-called : goal.returns-clause-called
 returns-clause-called c =
-    subst (λ (files : Files). IsCall commands (lines_of c.args.words.now) files (length c.args.line.now) (take c.call.result.written c.call.new.line) c.call.result.status)
+    subst (λ (files : Files). IsCall commands (lines_of c.args.words.now) files (length c.args.line.now) (take c.call.result.written c.call.new.line)
+    c.call.result.status)
     (λ i name. (ap (λ fs. lent_files fs name) c.deref.ensures.value ∙ c.in-Ok.ensures name) i)
     c.call.ensures.called

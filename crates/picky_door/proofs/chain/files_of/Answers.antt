@@ -7,6 +7,8 @@ use Rattle.picky_door.proofs.chain.files_of.Goals as goal
 
 pub returns-in_ok-push-in-Some : goal.returns-in_ok-push-in-Some
 returns-in_ok-push-in-Some c name =
-    with_table c.append_pool.new.files.items c.push.new.self.items _ (option_copied c.args.table) (pooled_files c.args.certificates.now c.args.lengths.now name) name
+    with_table c.append_pool.new.files.items c.push.new.self.items _ (option_copied c.args.table)
+    (pooled_files c.args.certificates.now c.args.lengths.now name) name
     c.in_ok-push-in-Some.ensures.items refl (ap option_copied (sym c.in-Some.is))
-    (c.in_ok-append_pool.ensures name ∙ ap (λ fs. option_or (lent_files fs name) (pooled_files c.args.certificates.now c.args.lengths.now name)) c.new-files.ensures.items)
+    (c.in_ok-append_pool.ensures name
+    ∙ ap (λ fs. option_or (lent_files fs name) (pooled_files c.args.certificates.now c.args.lengths.now name)) c.new-files.ensures.items)

@@ -11,26 +11,33 @@ use Rattle.picky_door.proofs.program.call_over.Goals as goal
 
 pub returns-in-Some-clause-vouched_for : goal.returns-in-Some-clause-vouched_for
 returns-in-Some-clause-vouched_for c low =
-    subst (λ (table : Option (List ℕ)). IsVouchedProgramCall c.args.words.now (program_files c.args.program.now table c.args.list.now) (take c.call.result.written c.call.new.line))
+    subst (λ (table : Option (List ℕ)).
+    IsVouchedProgramCall c.args.words.now (program_files c.args.program.now table c.args.list.now) (take c.call.result.written c.call.new.line))
     (ap option_copied (sym c.in-Some.is)) (c.call.ensures.vouched_for low)
 
 pub returns-in-Some-clause-called : goal.returns-in-Some-clause-called
 returns-in-Some-clause-called c =
-    subst (λ (table : Option (List ℕ)). IsCall command_line (lines_of c.args.words.now) (program_files c.args.program.now table c.args.list.now) (length c.args.line.now) (take c.call.result.written c.call.new.line) c.call.result.status)
+    subst (λ (table : Option (List ℕ)). IsCall command_line (lines_of c.args.words.now) (program_files c.args.program.now table c.args.list.now)
+    (length c.args.line.now) (take c.call.result.written c.call.new.line) c.call.result.status)
     (ap option_copied (sym c.in-Some.is)) c.call.ensures.called
 
 pub returns-in-None-clause-vouched_for : goal.returns-in-None-clause-vouched_for
 returns-in-None-clause-vouched_for c low =
-    subst (λ (table : Option (List ℕ)). IsVouchedProgramCall c.args.words.now (program_files c.args.program.now table c.args.list.now) (take c.call-in-None.result.written c.call-in-None.new.line))
+    subst (λ (table : Option (List ℕ)).
+    IsVouchedProgramCall c.args.words.now (program_files c.args.program.now table c.args.list.now) (take c.call-in-None.result.written c.call-in-None.new.line))
     (ap option_copied (sym c.in-None.is))
     (subst (λ (files : Files). IsVouchedProgramCall c.args.words.now files (take c.call-in-None.result.written c.call-in-None.new.line))
-    (λ i name. if bytes_eq (codes "PROGRAM") name then Some c.args.program.now else if bytes_eq (codes "LIST") name then Some c.args.list.now else either_way None (bytes_eq (codes "TABLE") name) i)
+    (λ i name. if bytes_eq (codes "PROGRAM") name then Some c.args.program.now else if bytes_eq (codes "LIST") name then Some c.args.list.now
+    else either_way None (bytes_eq (codes "TABLE") name) i)
     (c.call-in-None.ensures.vouched_for low))
 
 pub returns-in-None-clause-called : goal.returns-in-None-clause-called
 returns-in-None-clause-called c =
-    subst (λ (table : Option (List ℕ)). IsCall command_line (lines_of c.args.words.now) (program_files c.args.program.now table c.args.list.now) (length c.args.line.now) (take c.call-in-None.result.written c.call-in-None.new.line) c.call-in-None.result.status)
+    subst (λ (table : Option (List ℕ)). IsCall command_line (lines_of c.args.words.now) (program_files c.args.program.now table c.args.list.now)
+    (length c.args.line.now) (take c.call-in-None.result.written c.call-in-None.new.line) c.call-in-None.result.status)
     (ap option_copied (sym c.in-None.is))
-    (subst (λ (files : Files). IsCall command_line (lines_of c.args.words.now) files (length c.args.line.now) (take c.call-in-None.result.written c.call-in-None.new.line) c.call-in-None.result.status)
-    (λ i name. if bytes_eq (codes "PROGRAM") name then Some c.args.program.now else if bytes_eq (codes "LIST") name then Some c.args.list.now else either_way None (bytes_eq (codes "TABLE") name) i)
+    (subst (λ (files : Files). IsCall command_line (lines_of c.args.words.now) files (length c.args.line.now)
+    (take c.call-in-None.result.written c.call-in-None.new.line) c.call-in-None.result.status)
+    (λ i name. if bytes_eq (codes "PROGRAM") name then Some c.args.program.now else if bytes_eq (codes "LIST") name then Some c.args.list.now
+    else either_way None (bytes_eq (codes "TABLE") name) i)
     c.call-in-None.ensures.called)

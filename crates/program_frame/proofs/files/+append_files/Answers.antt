@@ -10,8 +10,10 @@ use Rattle.program_frame.proofs.files.+append_files.Goals as goal
 pub returns-in_err-read_file-clause-unread : goal.returns-in_err-read_file-clause-unread
 returns-in_err-read_file-clause-unread g t c =
     let p = err_from_is_err_and c.from_residual.result c.from_residual.ensures.1 in
-    let are = words_are string_bytes c.args.names.now c.name-item.result c.as_str.result.now c.in-len1-up.len_at_least c.name-item.is (sym c.as_str.ensures.value) in
-    rw (p.1, p.2) (subst (λ (names : List (List ℕ)). AreUnread (g.F.Shelf.state c.args.shelf.now) (g.F.Shelf.state c.read_file.new.shelf) names c.in_err-read_file.field-0.0) (sym are)
+    let are =
+    words_are string_bytes c.args.names.now c.name-item.result c.as_str.result.now c.in-len1-up.len_at_least c.name-item.is (sym c.as_str.ensures.value) in
+    rw (p.1, p.2) (subst (λ (names : List (List ℕ)).
+    AreUnread (g.F.Shelf.state c.args.shelf.now) (g.F.Shelf.state c.read_file.new.shelf) names c.in_err-read_file.field-0.0) (sym are)
     (unread_first (g.F.Shelf.state c.args.shelf.now) (g.F.Shelf.state c.args.shelf.now) (g.F.Shelf.state c.read_file.new.shelf)
     c.as_str.result.now (map string_bytes (behind c.args.names.now)) c.in_err-read_file.field-0.0
     (λ fault. c.in_err-read_file.ensures.cause (ap Err fault))
@@ -22,7 +24,8 @@ returns-in_err-read_file-clause-unread g t c =
 
 pub returns-clause-unread : goal.returns-clause-unread
 returns-clause-unread g t c =
-    let are = words_are string_bytes c.args.names.now c.name-item.result c.as_str.result.now c.in-len1-up.len_at_least c.name-item.is (sym c.as_str.ensures.value) in
+    let are =
+    words_are string_bytes c.args.names.now c.name-item.result c.as_str.result.now c.in-len1-up.len_at_least c.name-item.is (sym c.as_str.ensures.value) in
     IfErr-weaker c.append_files.result _ _ (λ e h.
     subst (λ (names : List (List ℕ)). AreUnread (g.F.Shelf.state c.args.shelf.now) (g.F.Shelf.state c.append_files.new.shelf) names e) (sym are)
     (unread_behind (g.F.Shelf.state c.args.shelf.now) (g.F.Shelf.state c.read_file.new.shelf) (g.F.Shelf.state c.append_files.new.shelf)
@@ -49,4 +52,11 @@ returns-in_err-push-clause-at_most g t c = omega (arith, c.in_ok-read_file.ensur
 
 pub returns-clause-at_most : goal.returns-clause-at_most
 returns-clause-at_most g t c =
-    omega (arith, c.in_ok-read_file.ensures.at_most, c.append_files.ensures.at_most, c.in-len1-up.len_at_least, length-take (length c.args.names.now - 1) (drop 1 c.args.names.now), length-drop 1 c.args.names.now)
+    omega (
+      arith,
+      c.in_ok-read_file.ensures.at_most,
+      c.append_files.ensures.at_most,
+      c.in-len1-up.len_at_least,
+      length-take (length c.args.names.now - 1) (drop 1 c.args.names.now),
+      length-drop 1 c.args.names.now,
+    )

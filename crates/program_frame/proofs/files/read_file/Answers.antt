@@ -49,7 +49,16 @@ returns-then-count-eq0-clause-whole g c = record {
       let read = c.loop-piece.invariant.read exposed in
       let moves = c.in_ok-count.ensures.moved read.left read.rest_is in
       let some : 0 < length c.read.new.into =
-      omega (arith, c.read.auto.into, length-take c.min-most.result c.loop-piece.piece, c.loop-piece.invariant.size, c.min-most.ensures, c.len-in-loop-piece.ensures, c.len.ensures, c.loop-piece-test.true) in
+      omega (
+        arith,
+        c.read.auto.into,
+        length-take c.min-most.result c.loop-piece.piece,
+        c.loop-piece.invariant.size,
+        c.min-most.ensures,
+        c.len-in-loop-piece.ensures,
+        c.len.ensures,
+        c.loop-piece-test.true,
+      ) in
       reads_all _ _ _ _ _ _ _ read moves c.if-count-eq0.true some;
   short = omega (arith, c.len.ensures, c.loop-piece-test.true);
 }
@@ -65,14 +74,33 @@ returns-then-count-eq0-clause-quiet g c quiet has = (c.read.ensures.quiet (c.loo
 pub loop-piece-preserved : goal.loop-piece-preserved
 loop-piece-preserved g c =
     let items = c.in_ok-extend_from_slice.ensures.items in
-    let front = take-append-le c.in_ok-count.count c.read.new.into (drop c.min-most.result c.loop-piece.piece) (omega (arith, c.in_ok-count.ensures.bound, c.read.auto.into)) in
+    let front = take-append-le c.in_ok-count.count c.read.new.into (drop c.min-most.result c.loop-piece.piece)
+    (omega (arith, c.in_ok-count.ensures.bound, c.read.auto.into)) in
     let size : length c.extend_from_slice.new.self.items ≡ length c.loop-piece.octets.items + c.in_ok-count.count =
     ap length items
     ∙ length-append c.loop-piece.octets.items _
-    ∙ ap (λ n. length c.loop-piece.octets.items + n) (length-take-le c.in_ok-count.count _ (omega (arith, c.in_ok-count.ensures.bound, c.read.auto.into, length-append c.read.new.into (drop c.min-most.result c.loop-piece.piece)))) in
+    ∙ ap (λ n. length c.loop-piece.octets.items + n) (length-take-le c.in_ok-count.count _
+    (omega (arith, c.in_ok-count.ensures.bound, c.read.auto.into, length-append c.read.new.into (drop c.min-most.result c.loop-piece.piece)))) in
     record {
-      within = omega (arith, size, c.in_ok-count.ensures.bound, length-take c.min-most.result c.loop-piece.piece, c.min-most.ensures, c.len-in-loop-piece.ensures, c.len.ensures, c.loop-piece-test.true);
-      size = omega (arith, length-append c.read.new.into (drop c.min-most.result c.loop-piece.piece), length-drop c.min-most.result c.loop-piece.piece, c.read.auto.into, length-take c.min-most.result c.loop-piece.piece, c.loop-piece.invariant.size, c.min-most.ensures);
+      within = omega (
+        arith,
+        size,
+        c.in_ok-count.ensures.bound,
+        length-take c.min-most.result c.loop-piece.piece,
+        c.min-most.ensures,
+        c.len-in-loop-piece.ensures,
+        c.len.ensures,
+        c.loop-piece-test.true,
+      );
+      size = omega (
+        arith,
+        length-append c.read.new.into (drop c.min-most.result c.loop-piece.piece),
+        length-drop c.min-most.result c.loop-piece.piece,
+        c.read.auto.into,
+        length-take c.min-most.result c.loop-piece.piece,
+        c.loop-piece.invariant.size,
+        c.min-most.ensures,
+      );
       read = λ exposed.
           let read = c.loop-piece.invariant.read exposed in
           let moves = c.in_ok-count.ensures.moved read.left read.rest_is in
@@ -118,7 +146,17 @@ returns-then-count-eq0-clause-at_most g c =
 
 pub returns-in_err-extend_from_slice-clause-at_most : goal.returns-in_err-extend_from_slice-clause-at_most
 returns-in_err-extend_from_slice-clause-at_most g c =
-    omega (arith, c.loop-piece.invariant.given, c.in_ok-count.ensures.given, c.in_ok-count.ensures.bound, length-take c.min-most.result c.loop-piece.piece, c.min-most.ensures, c.len-in-loop-piece.ensures, c.len.ensures, c.loop-piece-test.true)
+    omega (
+      arith,
+      c.loop-piece.invariant.given,
+      c.in_ok-count.ensures.given,
+      c.in_ok-count.ensures.bound,
+      length-take c.min-most.result c.loop-piece.piece,
+      c.min-most.ensures,
+      c.len-in-loop-piece.ensures,
+      c.len.ensures,
+      c.loop-piece-test.true,
+    )
 
 pub returns-clause-at_most : goal.returns-clause-at_most
 returns-clause-at_most g c = omega (arith, c.loop-piece.invariant.given, c.loop-piece.invariant.within)

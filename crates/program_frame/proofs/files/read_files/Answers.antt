@@ -21,7 +21,8 @@ returns-in_err-second-clause-read g c =
     let p = err_from_is_err_and c.from_residual-in_err-second.result c.from_residual-in_err-second.ensures.1 in
     rw (p.1, p.2) (unread_behind (g.F.Shelf.state c.args.shelf.now) (g.F.Shelf.state c.read_file.new.shelf) (g.F.Shelf.state c.read_file-2.new.shelf)
     c.args.names.now.first.now (c.args.names.now.second.now ∷ map string_bytes c.args.names.now.others.now) c.in_err-second.field-0.0 c.in_ok-first.first.items
-    c.in_ok-first.ensures.whole c.in_ok-first.ensures.same c.in_ok-first.ensures.quiet c.in_ok-first.ensures.counted c.in_ok-first.ensures.given c.in_ok-first.ensures.counted_given
+    c.in_ok-first.ensures.whole c.in_ok-first.ensures.same c.in_ok-first.ensures.quiet c.in_ok-first.ensures.counted c.in_ok-first.ensures.given
+    c.in_ok-first.ensures.counted_given
     (unread_first (g.F.Shelf.state c.read_file.new.shelf) (g.F.Shelf.state c.read_file.new.shelf) (g.F.Shelf.state c.read_file-2.new.shelf)
     c.args.names.now.second.now (map string_bytes c.args.names.now.others.now) c.in_err-second.field-0.0
     (λ fault. c.in_err-second.ensures.cause (ap Err fault))
@@ -34,11 +35,14 @@ pub returns-in_err-append_files-clause-read : goal.returns-in_err-append_files-c
 returns-in_err-append_files-clause-read g c =
     let p = err_from_is_err_and c.from_residual-in_err-append_files.result c.from_residual-in_err-append_files.ensures.1 in
     rw (p.1, p.2) (unread_behind (g.F.Shelf.state c.args.shelf.now) (g.F.Shelf.state c.read_file.new.shelf) (g.F.Shelf.state c.append_files.new.shelf)
-    c.args.names.now.first.now (c.args.names.now.second.now ∷ map string_bytes c.args.names.now.others.now) c.in_err-append_files.field-0.0 c.in_ok-first.first.items
-    c.in_ok-first.ensures.whole c.in_ok-first.ensures.same c.in_ok-first.ensures.quiet c.in_ok-first.ensures.counted c.in_ok-first.ensures.given c.in_ok-first.ensures.counted_given
+    c.args.names.now.first.now (c.args.names.now.second.now ∷ map string_bytes c.args.names.now.others.now)
+    c.in_err-append_files.field-0.0 c.in_ok-first.first.items
+    c.in_ok-first.ensures.whole c.in_ok-first.ensures.same c.in_ok-first.ensures.quiet c.in_ok-first.ensures.counted c.in_ok-first.ensures.given
+    c.in_ok-first.ensures.counted_given
     (unread_behind (g.F.Shelf.state c.read_file.new.shelf) (g.F.Shelf.state c.read_file-2.new.shelf) (g.F.Shelf.state c.append_files.new.shelf)
     c.args.names.now.second.now (map string_bytes c.args.names.now.others.now) c.in_err-append_files.field-0.0 c.in_ok-second.second.items
-    c.in_ok-second.ensures.whole c.in_ok-second.ensures.same c.in_ok-second.ensures.quiet c.in_ok-second.ensures.counted c.in_ok-second.ensures.given c.in_ok-second.ensures.counted_given
+    c.in_ok-second.ensures.whole c.in_ok-second.ensures.same c.in_ok-second.ensures.quiet c.in_ok-second.ensures.counted c.in_ok-second.ensures.given
+    c.in_ok-second.ensures.counted_given
     c.in_err-append_files.ensures.unread))
 
 pub returns-in_err-first-clause-once : goal.returns-in_err-first-clause-once
@@ -49,17 +53,20 @@ returns-in_err-first-clause-once g c =
 pub returns-in_err-second-clause-once : goal.returns-in_err-second-clause-once
 returns-in_err-second-clause-once g c =
     let p = err_from_is_err_and c.from_residual-in_err-second.result c.from_residual-in_err-second.ensures.1 in
-    failed_as (λ returned. p.1 ∙ ap Err (p.2 ∙ one_error c.in_err-second.field-0.0 _ returned)) (failed_then (stands c.in_ok-first.ensures.once (λ none. absurd cc)) c.in_err-second.ensures.once)
+    failed_as (λ returned. p.1 ∙ ap Err (p.2 ∙ one_error c.in_err-second.field-0.0 _ returned))
+    (failed_then (stands c.in_ok-first.ensures.once (λ none. absurd cc)) c.in_err-second.ensures.once)
 
 pub returns-in_err-append_files-clause-once : goal.returns-in_err-append_files-clause-once
 returns-in_err-append_files-clause-once g c =
     let p = err_from_is_err_and c.from_residual-in_err-append_files.result c.from_residual-in_err-append_files.ensures.1 in
     failed_as (λ returned. p.1 ∙ ap Err (p.2 ∙ one_error c.in_err-append_files.field-0.0 _ returned))
-    (failed_then (stands c.in_ok-second.ensures.once (λ none. absurd cc) ∙ stands c.in_ok-first.ensures.once (λ none. absurd cc)) c.in_err-append_files.ensures.once)
+    (failed_then (stands c.in_ok-second.ensures.once (λ none. absurd cc) ∙ stands c.in_ok-first.ensures.once (λ none. absurd cc))
+    c.in_err-append_files.ensures.once)
 
 pub returns-clause-once : goal.returns-clause-once
 returns-clause-once g c =
-    none_failed (stands c.in_ok-append_files.ensures.once (λ none. absurd cc) ∙ stands c.in_ok-second.ensures.once (λ none. absurd cc) ∙ stands c.in_ok-first.ensures.once (λ none. absurd cc))
+    none_failed (stands c.in_ok-append_files.ensures.once (λ none. absurd cc) ∙ stands c.in_ok-second.ensures.once (λ none. absurd cc)
+    ∙ stands c.in_ok-first.ensures.once (λ none. absurd cc))
 
 pub returns-in_err-first-clause-at_most : goal.returns-in_err-first-clause-at_most
 returns-in_err-first-clause-at_most g c = omega (arith, c.in_err-first.ensures.at_most)
@@ -69,8 +76,20 @@ returns-in_err-second-clause-at_most g c = omega (arith, c.in_ok-first.ensures.a
 
 pub returns-in_err-append_files-clause-at_most : goal.returns-in_err-append_files-clause-at_most
 returns-in_err-append_files-clause-at_most g c =
-    omega (arith, c.in_ok-first.ensures.at_most, c.in_ok-second.ensures.at_most, c.in_err-append_files.ensures.at_most, length-map c.args.names.now.others.now string_bytes)
+    omega (
+      arith,
+      c.in_ok-first.ensures.at_most,
+      c.in_ok-second.ensures.at_most,
+      c.in_err-append_files.ensures.at_most,
+      length-map c.args.names.now.others.now string_bytes,
+    )
 
 pub returns-clause-at_most : goal.returns-clause-at_most
 returns-clause-at_most g c =
-    omega (arith, c.in_ok-first.ensures.at_most, c.in_ok-second.ensures.at_most, c.in_ok-append_files.ensures.at_most, length-map c.args.names.now.others.now string_bytes)
+    omega (
+      arith,
+      c.in_ok-first.ensures.at_most,
+      c.in_ok-second.ensures.at_most,
+      c.in_ok-append_files.ensures.at_most,
+      length-map c.args.names.now.others.now string_bytes,
+    )

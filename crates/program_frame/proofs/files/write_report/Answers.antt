@@ -57,7 +57,8 @@ returns-in_err-done-clause-room g c has =
 
 pub returns-clause-lowered : goal.returns-clause-lowered
 returns-clause-lowered g c =
-    let all : c.loop-done.done ≡ length c.args.text.now = omega (arith, c.loop-done-test.false, c.loop-done.invariant.within, ap length c.as_bytes-octets.ensures.value) in
+    let all : c.loop-done.done ≡ length c.args.text.now =
+    omega (arith, c.loop-done-test.false, c.loop-done.invariant.within, ap length c.as_bytes-octets.ensures.value) in
     subst (λ n. Lowers (g.O.Sink.state c.args.out.now).room n (g.O.Sink.state c.loop-done.out).room) all c.loop-done.invariant.room
 
 pub returns-in_err-done-clause-capacity : goal.returns-in_err-done-clause-capacity

@@ -10,13 +10,17 @@ use Rattle.program_frame.proofs.task.answer.Goals as goal
 pub returns-in_err-contents-clause-found : goal.returns-in_err-contents-clause-found
 returns-in_err-contents-clause-found g c =
     let p = err_from_is_err_and c.from_residual.result c.from_residual.ensures.1 in
-    rw (p.1, p.2) (IsInquiry-unread (g.F.Shelf.state c.args.shelf.now) (g.F.Shelf.state c.read_files.new.shelf) (g.T.Task.question c.args.task.now) c.in_err-contents.field-0.0
-    (subst (λ (names : List (List ℕ)). AreUnread (g.F.Shelf.state c.args.shelf.now) (g.F.Shelf.state c.read_files.new.shelf) names c.in_err-contents.field-0.0) c.names.ensures c.in_err-contents.ensures.read))
+    rw (p.1, p.2) (IsInquiry-unread (g.F.Shelf.state c.args.shelf.now) (g.F.Shelf.state c.read_files.new.shelf) (g.T.Task.question c.args.task.now)
+    c.in_err-contents.field-0.0
+    (subst (λ (names : List (List ℕ)). AreUnread (g.F.Shelf.state c.args.shelf.now) (g.F.Shelf.state c.read_files.new.shelf) names c.in_err-contents.field-0.0)
+    c.names.ensures c.in_err-contents.ensures.read))
 
 pub returns-clause-found : goal.returns-clause-found
 returns-clause-found g c =
-    IsInquiry-read (g.F.Shelf.state c.args.shelf.now) (g.F.Shelf.state c.read_files.new.shelf) (g.T.Task.question c.args.task.now) (contents_held c.in_ok-contents.contents)
-    (subst (λ (names : List (List ℕ)). AreRead (g.F.Shelf.state c.args.shelf.now) (g.F.Shelf.state c.read_files.new.shelf) names (contents_held c.in_ok-contents.contents)) c.names.ensures c.in_ok-contents.ensures.read)
+    IsInquiry-read (g.F.Shelf.state c.args.shelf.now) (g.F.Shelf.state c.read_files.new.shelf) (g.T.Task.question c.args.task.now)
+    (contents_held c.in_ok-contents.contents)
+    (subst (λ (names : List (List ℕ)). AreRead (g.F.Shelf.state c.args.shelf.now) (g.F.Shelf.state c.read_files.new.shelf) names
+    (contents_held c.in_ok-contents.contents)) c.names.ensures c.in_ok-contents.ensures.read)
     c.report.result c.report.ensures.reported c.report.ensures.stopped c.report.ensures.only c.report.ensures.bad
 
 pub returns-in_err-contents-clause-once : goal.returns-in_err-contents-clause-once

@@ -14,8 +14,10 @@ use Rattle.signature_questions.proofs.inquiry.answer.Goals as goal
 pub returns-in_err-append_files-clause-found : goal.returns-in_err-append_files-clause-found
 returns-in_err-append_files-clause-found g c =
     let p = err_from_is_err_and c.from_residual.result c.from_residual.ensures.1 in
-    rw (p.1, p.2) (IsInquiry-unread (g.F.Shelf.state c.args.shelf.now) (g.F.Shelf.state c.append_files.new.shelf) (question_of (job_held c.args.job.now)) c.in_err-append_files.field-0.0
-    (subst (λ (names : List (List ℕ)). AreUnread (g.F.Shelf.state c.args.shelf.now) (g.F.Shelf.state c.append_files.new.shelf) names c.in_err-append_files.field-0.0) c.files.ensures c.in_err-append_files.ensures.unread))
+    rw (p.1, p.2) (IsInquiry-unread (g.F.Shelf.state c.args.shelf.now) (g.F.Shelf.state c.append_files.new.shelf) (question_of (job_held c.args.job.now))
+    c.in_err-append_files.field-0.0
+    (subst (λ (names : List (List ℕ)). AreUnread (g.F.Shelf.state c.args.shelf.now) (g.F.Shelf.state c.append_files.new.shelf)
+    names c.in_err-append_files.field-0.0) c.files.ensures c.in_err-append_files.ensures.unread))
 
 pub returns-in_err-append_files-clause-once : goal.returns-in_err-append_files-clause-once
 returns-in_err-append_files-clause-once g c =
@@ -28,7 +30,8 @@ returns-clause-once g c = none_failed (stands c.in_ok-append_files.ensures.once 
 pub report_on-requires-clause-as_many : goal.report_on-requires-clause-as_many
 report_on-requires-clause-as_many g c =
     let read = c.in_ok-append_files.ensures.read in
-    let whole = subst (λ (names : List (List ℕ)). AreRead (g.F.Shelf.state c.args.shelf.now) (g.F.Shelf.state c.append_files.new.shelf) names read.0) c.files.ensures read.2 in
+    let whole = subst (λ (names : List (List ℕ)). AreRead (g.F.Shelf.state c.args.shelf.now) (g.F.Shelf.state c.append_files.new.shelf) names read.0)
+    c.files.ensures read.2 in
     let read_is = read.1 ∙ ap (λ (vs : List (Vec ℕ Global)). map (λ (v : Vec ℕ Global). v.items) vs ++ read.0) c.new-contents.ensures.items in
     let same = as_many _ (files_of (job_held c.args.job.now)) read.0 whole.are_files in
     omega (arith, same, ap length read_is, length-map c.append_files.new.contents.items (λ (v : Vec ℕ Global). v.items), ap length c.deref.ensures.value)
@@ -36,7 +39,8 @@ report_on-requires-clause-as_many g c =
 pub returns-clause-found : goal.returns-clause-found
 returns-clause-found g c =
     let read = c.in_ok-append_files.ensures.read in
-    let whole = subst (λ (names : List (List ℕ)). AreRead (g.F.Shelf.state c.args.shelf.now) (g.F.Shelf.state c.append_files.new.shelf) names read.0) c.files.ensures read.2 in
+    let whole = subst (λ (names : List (List ℕ)). AreRead (g.F.Shelf.state c.args.shelf.now) (g.F.Shelf.state c.append_files.new.shelf) names read.0)
+    c.files.ensures read.2 in
     let read_is = read.1 ∙ ap (λ (vs : List (Vec ℕ Global)). map (λ (v : Vec ℕ Global). v.items) vs ++ read.0) c.new-contents.ensures.items in
     reported (g.F.Shelf.state c.args.shelf.now) (g.F.Shelf.state c.append_files.new.shelf) (job_held c.args.job.now) _ read.0 c.report_on.result
     (ap (map (λ (v : Vec ℕ Global). v.items)) c.deref.ensures.value ∙ read_is) whole c.report_on.ensures

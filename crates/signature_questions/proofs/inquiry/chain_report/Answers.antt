@@ -8,7 +8,8 @@ use Rattle.signature_questions.proofs.inquiry.chain_report.Goals as goal
 
 pub returns-in-Err : goal.returns-in-Err
 returns-in-Err c =
-    unread_reports (map (λ (v : Vec ℕ Global). v.items) c.args.contents.now) c.in-Err.error c.unread_report.result c.in-Err.ensures.unread c.unread_report.ensures.refused c.unread_report.ensures.memory
+    unread_reports (map (λ (v : Vec ℕ Global). v.items) c.args.contents.now)
+    c.in-Err.error c.unread_report.result c.in-Err.ensures.unread c.unread_report.ensures.refused c.unread_report.ensures.memory
 
 pub returns-in_err-chain_lines_of : goal.returns-in_err-chain_lines_of
 returns-in_err-chain_lines_of c =

@@ -16,5 +16,8 @@ pub returns : goal.returns
 returns c =
     let some = eqb-false _ _ (sym c.is_empty.ensures ∙ c.if-is_empty.false) in (
       refl,
-      (omega (arith, length-map c.args.certificates.now string_bytes, some), omega (arith, length-map c.args.certificates.now string_bytes, c.if-certificates-gt-MOST_CERTIFICATES.false)),
+      (
+        omega (arith, length-map c.args.certificates.now string_bytes, some),
+        omega (arith, length-map c.args.certificates.now string_bytes, c.if-certificates-gt-MOST_CERTIFICATES.false),
+      ),
     )

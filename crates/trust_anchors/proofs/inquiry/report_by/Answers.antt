@@ -18,4 +18,5 @@ returns-in_err-report_of g c =
 
 pub returns : goal.returns
 returns g c =
-    answer_reports (g.S.Scheme.judge c.args.scheme.now) (job_held c.args.asked.now) (certificates_in (contents_held c.args.read.now)) _ _ c.in_ok-answer.ensures.answer c.in_ok-report_of.ensures
+    answer_reports (g.S.Scheme.judge c.args.scheme.now) (job_held c.args.asked.now)
+    (certificates_in (contents_held c.args.read.now)) _ _ c.in_ok-answer.ensures.answer c.in_ok-report_of.ensures

@@ -7,5 +7,6 @@ use Rattle.trust_anchors.proofs.inquiry.search.Goals as goal
 pub returns-in-Ok-None-clause-found : goal.returns-in-Ok-None-clause-found
 returns-in-Ok-None-clause-found g c path is =
     none_found _ c.in-Ok-None.field-0 c.in-Ok-None.field-0-is c.in-Ok-None.ensures.found path
-    (subst (λ (pool : List KeptCertificate). IsAnchoredPath (g.S.Scheme.judge c.args.scheme.now) c.args.asked.now.date c.args.given.now.checked pool c.args.given.now.anchors c.args.asked.now.purpose path)
+    (subst (λ (pool : List KeptCertificate). IsAnchoredPath (g.S.Scheme.judge c.args.scheme.now)
+    c.args.asked.now.date c.args.given.now.checked pool c.args.given.now.anchors c.args.asked.now.purpose path)
     (sym c.deref.ensures.value) is)

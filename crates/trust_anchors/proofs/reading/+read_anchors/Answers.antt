@@ -12,17 +12,24 @@ returns-in_err-certificate-clause-unread t c =
 
 pub returns-in_default-clause-read : goal.returns-in_default-clause-read
 returns-in_default-clause-read t c =
-    last_anchor c.args.first.now (c.args.first.now ∷ map (λ octets. octets.items) c.args.others.now) c.in_ok-certificate.certificate c.args.anchors.now c.add_anchor.new.anchors
-    (ap (λ (xs : List (List ℕ)). c.args.first.now ∷ xs) (no_words (λ octets. octets.items) c.args.others.now (omega (arith, c.in_default.len_below)))) c.in_ok-certificate.ensures.read c.in_ok-add_anchor.ensures.added
+    last_anchor c.args.first.now (c.args.first.now ∷ map (λ octets. octets.items) c.args.others.now)
+    c.in_ok-certificate.certificate c.args.anchors.now c.add_anchor.new.anchors
+    (ap (λ (xs : List (List ℕ)). c.args.first.now ∷ xs) (no_words (λ octets. octets.items) c.args.others.now (omega (arith, c.in_default.len_below))))
+    c.in_ok-certificate.ensures.read c.in_ok-add_anchor.ensures.added
 
 pub returns-clause-read : goal.returns-clause-read
 returns-clause-read t c =
-    let are = words_are (λ octets. octets.items) c.args.others.now c.next-item.result c.deref.result.now c.in-len1-up.len_at_least c.next-item.is (sym c.deref.ensures.value) in
-    on_ok_weaker c.read_anchors.result (λ h. anchors_behind c.args.first.now (c.deref.result.now ∷ map (λ octets. octets.items) (behind c.args.others.now)) (c.args.first.now ∷ map (λ octets. octets.items) c.args.others.now)
-    c.in_ok-certificate.certificate c.args.anchors.now c.add_anchor.new.anchors c.read_anchors.new.anchors (ap (λ (xs : List (List ℕ)). c.args.first.now ∷ xs) are) c.in_ok-certificate.ensures.read c.in_ok-add_anchor.ensures.added h) c.read_anchors.ensures.read
+    let are = words_are (λ octets. octets.items) c.args.others.now c.next-item.result c.deref.result.now c.in-len1-up.len_at_least c.next-item.is
+    (sym c.deref.ensures.value) in
+    on_ok_weaker c.read_anchors.result (λ h. anchors_behind c.args.first.now (c.deref.result.now ∷ map (λ octets. octets.items) (behind c.args.others.now))
+    (c.args.first.now ∷ map (λ octets. octets.items) c.args.others.now)
+    c.in_ok-certificate.certificate c.args.anchors.now c.add_anchor.new.anchors c.read_anchors.new.anchors
+    (ap (λ (xs : List (List ℕ)). c.args.first.now ∷ xs) are) c.in_ok-certificate.ensures.read c.in_ok-add_anchor.ensures.added h) c.read_anchors.ensures.read
 
 pub returns-clause-unread : goal.returns-clause-unread
 returns-clause-unread t c =
-    let are = words_are (λ octets. octets.items) c.args.others.now c.next-item.result c.deref.result.now c.in-len1-up.len_at_least c.next-item.is (sym c.deref.ensures.value) in
-    IfErr-weaker c.read_anchors.result _ _ (λ e h. later_unread c.args.first.now (c.deref.result.now ∷ map (λ octets. octets.items) (behind c.args.others.now)) (c.args.first.now ∷ map (λ octets. octets.items) c.args.others.now) e
+    let are = words_are (λ octets. octets.items) c.args.others.now c.next-item.result c.deref.result.now c.in-len1-up.len_at_least c.next-item.is
+    (sym c.deref.ensures.value) in
+    IfErr-weaker c.read_anchors.result _ _ (λ e h. later_unread c.args.first.now (c.deref.result.now ∷ map (λ octets. octets.items) (behind c.args.others.now))
+    (c.args.first.now ∷ map (λ octets. octets.items) c.args.others.now) e
     (ap (λ (xs : List (List ℕ)). c.args.first.now ∷ xs) are) h) c.read_anchors.ensures.unread

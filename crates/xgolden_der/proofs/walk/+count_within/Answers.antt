@@ -12,10 +12,12 @@ pub loop-elem-smaller-in-Some-kids : goal.loop-elem-smaller-in-Some-kids
 loop-elem-smaller-in-Some-kids t c =
     let there = c.loop-elem.cursor in
     let elem = c.in-Some-2.elem in
-    fewer_left there.level there.place c.next.new.self.place there.rest.now elem.whole.now c.next.new.self.rest.now elem.is.0 (of_some _ _ elem c.in-Some-2.is c.in_ok-elem.ensures.given) (of_some _ _ elem c.in-Some-2.is c.in_ok-elem.ensures.moved)
+    fewer_left there.level there.place c.next.new.self.place there.rest.now elem.whole.now c.next.new.self.rest.now elem.is.0
+    (of_some _ _ elem c.in-Some-2.is c.in_ok-elem.ensures.given) (of_some _ _ elem c.in-Some-2.is c.in_ok-elem.ensures.moved)
 
 pub loop-elem-smaller : goal.loop-elem-smaller
 loop-elem-smaller t c =
     let there = c.loop-elem.cursor in
     let elem = c.in-Some-2.elem in
-    fewer_left there.level there.place c.next.new.self.place there.rest.now elem.whole.now c.next.new.self.rest.now elem.is.0 (of_some _ _ elem c.in-Some-2.is c.in_ok-elem.ensures.given) (of_some _ _ elem c.in-Some-2.is c.in_ok-elem.ensures.moved)
+    fewer_left there.level there.place c.next.new.self.place there.rest.now elem.whole.now c.next.new.self.rest.now elem.is.0
+    (of_some _ _ elem c.in-Some-2.is c.in_ok-elem.ensures.given) (of_some _ _ elem c.in-Some-2.is c.in_ok-elem.ensures.moved)

@@ -8,8 +8,10 @@ returns-clause-steps c =
     let self = c.args.self.now in
     let here : self.issuer ≡ Some c.in_ok-issuer.issuer = search rules in
     let enough : self.most ≡ suc c.in_ok-left.left = search (rules, arith) in
-    one_step self.entries.now self.certificates.now self.most c.in_ok-left.left c.in_ok-issuer.issuer self.issuer c.issuer_at-self.result c.in_ok-cert.cert.now here
-    (slice_get_read self.certificates.now _ c.in_ok-issuer.issuer c.in_ok-cert.cert.now refl (search rules) c.in_ok-cert.ensures.lookup.1) enough c.issuer_at-self.ensures
+    one_step self.entries.now self.certificates.now self.most c.in_ok-left.left c.in_ok-issuer.issuer self.issuer c.issuer_at-self.result
+    c.in_ok-cert.cert.now here
+    (slice_get_read self.certificates.now _ c.in_ok-issuer.issuer c.in_ok-cert.cert.now refl (search rules) c.in_ok-cert.ensures.lookup.1)
+    enough c.issuer_at-self.ensures
 
 pub returns-clause-goes : goal.returns-clause-goes
 returns-clause-goes c = record {

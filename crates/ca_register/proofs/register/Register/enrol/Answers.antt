@@ -12,7 +12,8 @@ use Rattle.ca_register.specs.Issuing.{record_steps, request_step, signed_steps}
 use Rattle.ca_register.specs.declared.error.IssueError.{IssueError}
 use Rattle.ca_register.specs.declared.error.IssueError.TheVariants as errors
 use Rattle.ca_register.proofs.Builders.{issued_taken, taken_both}
-use Rattle.ca_register.proofs.Issued.{enrol_builder, for_inherited, for_subject, granted_for, granted_inherits, issued_by_other, issuer_has, issuer_within, kept_taken, kept_untaken, lent_ordered, refused_by_other, returned_key, unread_is_no_key}
+use Rattle.ca_register.proofs.Issued.{enrol_builder, for_inherited, for_subject, granted_for, granted_inherits, issued_by_other, issuer_has}
+use Rattle.ca_register.proofs.Issued.{issuer_within, kept_taken, kept_untaken, lent_ordered, refused_by_other, returned_key, unread_is_no_key}
 use Rattle.ca_register.proofs.Kept.{kept_child}
 use Rattle.ca_register.proofs.RecordSteps.{one_untaken, record_is_no_key, record_steps_decide, taken_untaken}
 use Rattle.ca_register.proofs.register.Register.enrol.Goals as goal
@@ -31,10 +32,12 @@ returns-in_err-expect_issuer-clause-answer g c =
     let judge = g.S.Scheme.judge register.scheme in
     let entries = register.entries.items in
     let certificates = register.certificates.items in
-    let untaken = kept_untaken judge entries certificates register.kept c.args.issuer c.deref.result.now c.deref.ensures.value c.in_err-expect_issuer.field-0.0 c.in_err-expect_issuer.ensures in
+    let untaken = kept_untaken judge entries certificates register.kept c.args.issuer c.deref.result.now c.deref.ensures.value c.in_err-expect_issuer.field-0.0
+    c.in_err-expect_issuer.ensures in
     let p = err_from_is_err_and c.from_residual.result c.from_residual.ensures.1 in
     rw (p.1, p.2) (refused_before errors.Memory (record_steps entries c.args.issuer)
-    (request_step c.args.request.now ∷ signed_steps (arithmetic judge (g.S.Scheme.signs register.scheme) (g.S.Scheme.pair register.scheme)) c.args.word certificates c.args.issuer (IsEnrolBuilder c.args.grant c.args.request.now c.args.issuer_key.now))
+    (request_step c.args.request.now ∷ signed_steps (arithmetic judge (g.S.Scheme.signs register.scheme) (g.S.Scheme.pair register.scheme))
+    c.args.word certificates c.args.issuer (IsEnrolBuilder c.args.grant c.args.request.now c.args.issuer_key.now))
     c.in_err-expect_issuer.field-0.0 (inl untaken))
 
 pub returns-in_err-expect_issuer-clause-recorded : goal.returns-in_err-expect_issuer-clause-recorded
@@ -43,9 +46,11 @@ returns-in_err-expect_issuer-clause-recorded g c = λ e first.
     let judge = g.S.Scheme.judge register.scheme in
     let entries = register.entries.items in
     let certificates = register.certificates.items in
-    let untaken = kept_untaken judge entries certificates register.kept c.args.issuer c.deref.result.now c.deref.ensures.value c.in_err-expect_issuer.field-0.0 c.in_err-expect_issuer.ensures in
+    let untaken = kept_untaken judge entries certificates register.kept c.args.issuer c.deref.result.now c.deref.ensures.value c.in_err-expect_issuer.field-0.0
+    c.in_err-expect_issuer.ensures in
     let p = err_from_is_err_and c.from_residual.result c.from_residual.ensures.1 in
-    p.1 ∙ ap Err (p.2 ∙ one_untaken (record_steps entries c.args.issuer) c.in_err-expect_issuer.field-0.0 e (record_steps_decide entries c.args.issuer) untaken first)
+    p.1 ∙ ap Err
+    (p.2 ∙ one_untaken (record_steps entries c.args.issuer) c.in_err-expect_issuer.field-0.0 e (record_steps_decide entries c.args.issuer) untaken first)
 
 pub returns-in_err-expect_issuer-clause-paired : goal.returns-in_err-expect_issuer-clause-paired
 returns-in_err-expect_issuer-clause-paired g c = λ parent source is_parent paired is.
@@ -53,9 +58,11 @@ returns-in_err-expect_issuer-clause-paired g c = λ parent source is_parent pair
     let judge = g.S.Scheme.judge register.scheme in
     let entries = register.entries.items in
     let certificates = register.certificates.items in
-    let untaken = kept_untaken judge entries certificates register.kept c.args.issuer c.deref.result.now c.deref.ensures.value c.in_err-expect_issuer.field-0.0 c.in_err-expect_issuer.ensures in
+    let untaken = kept_untaken judge entries certificates register.kept c.args.issuer c.deref.result.now c.deref.ensures.value c.in_err-expect_issuer.field-0.0
+    c.in_err-expect_issuer.ensures in
     let p = err_from_is_err_and c.from_residual.result c.from_residual.ensures.1 in
-    record_is_no_key entries c.args.issuer source (subst (λ (x : IssueError). IsFirstUntaken (record_steps entries c.args.issuer) x) (sym p.2 ∙ returned_key c.from_residual.result p.0 (errors.WrongKey source) p.1 is) untaken)
+    record_is_no_key entries c.args.issuer source (subst (λ (x : IssueError). IsFirstUntaken (record_steps entries c.args.issuer) x)
+    (sym p.2 ∙ returned_key c.from_residual.result p.0 (errors.WrongKey source) p.1 is) untaken)
 
 pub returns-in_err-csr-clause-answer : goal.returns-in_err-csr-clause-answer
 returns-in_err-csr-clause-answer g c =
@@ -66,9 +73,12 @@ returns-in_err-csr-clause-answer g c =
     let taken = kept_taken judge entries certificates register.kept c.args.issuer c.deref.result.now c.deref.ensures.value c.in_ok-expect_issuer.ensures in
     let p = err_from_is_err_and c.from_residual-in_err-csr.result c.from_residual-in_err-csr.ensures.1 in
     rw (p.1, p.2) (refused_behind errors.Memory (record_steps entries c.args.issuer)
-    (request_step c.args.request.now ∷ signed_steps (arithmetic judge (g.S.Scheme.signs register.scheme) (g.S.Scheme.pair register.scheme)) c.args.word certificates c.args.issuer (IsEnrolBuilder c.args.grant c.args.request.now c.args.issuer_key.now))
+    (request_step c.args.request.now ∷ signed_steps (arithmetic judge (g.S.Scheme.signs register.scheme) (g.S.Scheme.pair register.scheme))
+    c.args.word certificates c.args.issuer (IsEnrolBuilder c.args.grant c.args.request.now c.args.issuer_key.now))
     c.in_err-csr.field-0.0 taken
-    (refused_before errors.Memory (request_step c.args.request.now ∷ []) (signed_steps (arithmetic judge (g.S.Scheme.signs register.scheme) (g.S.Scheme.pair register.scheme)) c.args.word certificates c.args.issuer (IsEnrolBuilder c.args.grant c.args.request.now c.args.issuer_key.now)) c.in_err-csr.field-0.0 c.in_err-csr.ensures))
+    (refused_before errors.Memory (request_step c.args.request.now ∷ [])
+    (signed_steps (arithmetic judge (g.S.Scheme.signs register.scheme) (g.S.Scheme.pair register.scheme)) c.args.word certificates c.args.issuer
+    (IsEnrolBuilder c.args.grant c.args.request.now c.args.issuer_key.now)) c.in_err-csr.field-0.0 c.in_err-csr.ensures))
 
 pub returns-in_err-csr-clause-recorded : goal.returns-in_err-csr-clause-recorded
 returns-in_err-csr-clause-recorded g c = λ e first.
@@ -82,19 +92,24 @@ returns-in_err-csr-clause-recorded g c = λ e first.
 pub returns-in_err-csr-clause-paired : goal.returns-in_err-csr-clause-paired
 returns-in_err-csr-clause-paired g c = λ parent source is_parent paired is.
     let p = err_from_is_err_and c.from_residual-in_err-csr.result c.from_residual-in_err-csr.ensures.1 in
-    unread_is_no_key c.args.request.now source (subst (λ (x : IssueError). RefusesBySteps errors.Memory (request_step c.args.request.now ∷ []) x) (sym p.2 ∙ returned_key c.from_residual-in_err-csr.result p.0 (errors.WrongKey source) p.1 is) c.in_err-csr.ensures)
+    unread_is_no_key c.args.request.now source (subst (λ (x : IssueError). RefusesBySteps errors.Memory (request_step c.args.request.now ∷ []) x)
+    (sym p.2 ∙ returned_key c.from_residual-in_err-csr.result p.0 (errors.WrongKey source) p.1 is) c.in_err-csr.ensures)
 
 pub index-parent-requires : goal.index-parent-requires
 index-parent-requires g c =
     let register = c.args.self.now in
     subst (λ (n : ℕ). c.args.issuer < n) (sym register.certificates.ok.0)
-    (issuer_within (g.S.Scheme.judge register.scheme) register.entries.items register.certificates.items register.kept c.args.issuer c.deref.result.now c.deref.ensures.value c.in_ok-expect_issuer.ensures)
+    (issuer_within (g.S.Scheme.judge register.scheme) register.entries.items register.certificates.items register.kept c.args.issuer c.deref.result.now
+    c.deref.ensures.value c.in_ok-expect_issuer.ensures)
 
 pub issued_cert-requires-clause-unidentified : goal.issued_cert-requires-clause-unidentified
-issued_cert-requires-clause-unidentified g c = ap (λ (b : CertificateBuilder). b.authority_key_identifier) c.inherit_extensions_from_csr_attributes-builder.ensures ∙ ap (λ (b : CertificateBuilder). b.authority_key_identifier) c.subject_from_csr.ensures ∙ c.granted.ensures.rest.0
+issued_cert-requires-clause-unidentified g c =
+    ap (λ (b : CertificateBuilder). b.authority_key_identifier) c.inherit_extensions_from_csr_attributes-builder.ensures
+    ∙ ap (λ (b : CertificateBuilder). b.authority_key_identifier) c.subject_from_csr.ensures ∙ c.granted.ensures.rest.0
 
 pub issued_cert-requires-clause-algorithm : goal.issued_cert-requires-clause-algorithm
-issued_cert-requires-clause-algorithm g c = ap (λ (b : CertificateBuilder). b.signature_hash_type) c.inherit_extensions_from_csr_attributes-builder.ensures ∙ ap (λ (b : CertificateBuilder). b.signature_hash_type) c.subject_from_csr.ensures ∙ c.granted.ensures.granted.algorithm
+issued_cert-requires-clause-algorithm g c = ap (λ (b : CertificateBuilder). b.signature_hash_type) c.inherit_extensions_from_csr_attributes-builder.ensures
+    ∙ ap (λ (b : CertificateBuilder). b.signature_hash_type) c.subject_from_csr.ensures ∙ c.granted.ensures.granted.algorithm
 
 pub returns-in_err-cert-clause-answer : goal.returns-in_err-cert-clause-answer
 returns-in_err-cert-clause-answer g c =
@@ -103,14 +118,23 @@ returns-in_err-cert-clause-answer g c =
     let entries = register.entries.items in
     let certificates = register.certificates.items in
     let taken = kept_taken judge entries certificates register.kept c.args.issuer c.deref.result.now c.deref.ensures.value c.in_ok-expect_issuer.ensures in
-    let has = issuer_has judge entries certificates register.kept c.args.issuer c.deref.result.now c.deref.ensures.value c.in_ok-expect_issuer.ensures c.index-parent.result.now c.index-parent.ensures in
-    let for = (for_inherited c.args.grant (subjects.Request c.in_ok-csr.csr) true false c.subject_from_csr.result c.inherit_extensions_from_csr_attributes-builder.result (for_subject c.args.grant (subjects.Request c.in_ok-csr.csr) false c.granted.result c.subject_from_csr.result c.granted.ensures.granted c.granted.ensures.rest.1 c.subject_from_csr.ensures) c.inherit_extensions_from_csr_attributes-builder.ensures) in
+    let has = issuer_has judge entries certificates register.kept c.args.issuer c.deref.result.now c.deref.ensures.value c.in_ok-expect_issuer.ensures
+    c.index-parent.result.now c.index-parent.ensures in
+    let for =
+    (for_inherited c.args.grant (subjects.Request c.in_ok-csr.csr) true false c.subject_from_csr.result c.inherit_extensions_from_csr_attributes-builder.result
+    (for_subject c.args.grant (subjects.Request c.in_ok-csr.csr) false c.granted.result c.subject_from_csr.result c.granted.ensures.granted
+    c.granted.ensures.rest.1 c.subject_from_csr.ensures) c.inherit_extensions_from_csr_attributes-builder.ensures) in
     let p = err_from_is_err_and c.from_residual-in_err-cert.result c.from_residual-in_err-cert.ensures.1 in
     rw (p.1, p.2) (refused_behind errors.Memory (record_steps entries c.args.issuer)
-    (request_step c.args.request.now ∷ signed_steps (arithmetic judge (g.S.Scheme.signs register.scheme) (g.S.Scheme.pair register.scheme)) c.args.word certificates c.args.issuer (IsEnrolBuilder c.args.grant c.args.request.now c.args.issuer_key.now))
+    (request_step c.args.request.now ∷ signed_steps (arithmetic judge (g.S.Scheme.signs register.scheme) (g.S.Scheme.pair register.scheme))
+    c.args.word certificates c.args.issuer (IsEnrolBuilder c.args.grant c.args.request.now c.args.issuer_key.now))
     c.in_err-cert.field-0.0 taken
-    (refused_behind errors.Memory (request_step c.args.request.now ∷ []) (signed_steps (arithmetic judge (g.S.Scheme.signs register.scheme) (g.S.Scheme.pair register.scheme)) c.args.word certificates c.args.issuer (IsEnrolBuilder c.args.grant c.args.request.now c.args.issuer_key.now)) c.in_err-cert.field-0.0 ((c.in_ok-csr.csr, c.in_ok-csr.ensures), tt)
-    (refused_by_other (arithmetic judge (g.S.Scheme.signs register.scheme) (g.S.Scheme.pair register.scheme)) c.args.word certificates c.args.issuer (IsChildBuilder c.args.grant (subjects.Request c.in_ok-csr.csr) true c.args.issuer_key.now) (IsEnrolBuilder c.args.grant c.args.request.now c.args.issuer_key.now) (enrol_builder c.args.grant c.args.request.now c.in_ok-csr.csr c.args.issuer_key.now c.in_ok-csr.ensures) c.in_err-cert.field-0.0
+    (refused_behind errors.Memory (request_step c.args.request.now ∷ [])
+    (signed_steps (arithmetic judge (g.S.Scheme.signs register.scheme) (g.S.Scheme.pair register.scheme)) c.args.word certificates c.args.issuer
+    (IsEnrolBuilder c.args.grant c.args.request.now c.args.issuer_key.now)) c.in_err-cert.field-0.0 ((c.in_ok-csr.csr, c.in_ok-csr.ensures), tt)
+    (refused_by_other (arithmetic judge (g.S.Scheme.signs register.scheme) (g.S.Scheme.pair register.scheme)) c.args.word certificates c.args.issuer
+    (IsChildBuilder c.args.grant (subjects.Request c.in_ok-csr.csr) true c.args.issuer_key.now) (IsEnrolBuilder c.args.grant c.args.request.now
+    c.args.issuer_key.now) (enrol_builder c.args.grant c.args.request.now c.in_ok-csr.csr c.args.issuer_key.now c.in_ok-csr.ensures) c.in_err-cert.field-0.0
     (c.in_err-cert.ensures.answer c.args.grant (subjects.Request c.in_ok-csr.csr) true certificates c.args.issuer for has))))
 
 pub returns-in_err-cert-clause-recorded : goal.returns-in_err-cert-clause-recorded
@@ -128,10 +152,12 @@ returns-in_err-cert-clause-paired g c = λ parent source is_parent paired is.
     let judge = g.S.Scheme.judge register.scheme in
     let entries = register.entries.items in
     let certificates = register.certificates.items in
-    let has = issuer_has judge entries certificates register.kept c.args.issuer c.deref.result.now c.deref.ensures.value c.in_ok-expect_issuer.ensures c.index-parent.result.now c.index-parent.ensures in
+    let has = issuer_has judge entries certificates register.kept c.args.issuer c.deref.result.now c.deref.ensures.value c.in_ok-expect_issuer.ensures
+    c.index-parent.result.now c.index-parent.ensures in
     let p = err_from_is_err_and c.from_residual-in_err-cert.result c.from_residual-in_err-cert.ensures.1 in
     let here = same_some parent c.index-parent.result.now (sym is_parent ∙ has) in
-    c.in_err-cert.ensures.paired source (subst (λ (k : KeptCertificate). IsKeyPair (g.S.Scheme.pair register.scheme) c.args.issuer_key.now k.certificate.tbs_certificate.subject_public_key_info) here paired)
+    c.in_err-cert.ensures.paired source (subst (λ (k : KeptCertificate).
+    IsKeyPair (g.S.Scheme.pair register.scheme) c.args.issuer_key.now k.certificate.tbs_certificate.subject_public_key_info) here paired)
     (ap Err (sym p.2 ∙ returned_key c.from_residual-in_err-cert.result p.0 (errors.WrongKey source) p.1 is))
 
 pub add-requires : goal.add-requires
@@ -141,8 +167,11 @@ add-requires g c =
     let entries = register.entries.items in
     let certificates = register.certificates.items in
     let taken = kept_taken judge entries certificates register.kept c.args.issuer c.deref.result.now c.deref.ensures.value c.in_ok-expect_issuer.ensures in
-    let has = issuer_has judge entries certificates register.kept c.args.issuer c.deref.result.now c.deref.ensures.value c.in_ok-expect_issuer.ensures c.index-parent.result.now c.index-parent.ensures in
-    let granted = (granted_inherits c.args.grant true c.subject_from_csr.result c.inherit_extensions_from_csr_attributes-builder.result (granted_for c.args.grant (subjects.Request c.in_ok-csr.csr) c.granted.result c.subject_from_csr.result c.granted.ensures.granted c.subject_from_csr.ensures) c.inherit_extensions_from_csr_attributes-builder.ensures) in
+    let has = issuer_has judge entries certificates register.kept c.args.issuer c.deref.result.now c.deref.ensures.value c.in_ok-expect_issuer.ensures
+    c.index-parent.result.now c.index-parent.ensures in
+    let granted = (granted_inherits c.args.grant true c.subject_from_csr.result c.inherit_extensions_from_csr_attributes-builder.result
+    (granted_for c.args.grant (subjects.Request c.in_ok-csr.csr) c.granted.result c.subject_from_csr.result c.granted.ensures.granted
+    c.subject_from_csr.ensures) c.inherit_extensions_from_csr_attributes-builder.ensures) in
     kept_child judge entries certificates register.kept c.args.issuer c.args.grant c.index-parent.result.now c.in_ok-cert.cert taken has
     (λ key had. c.in_ok-cert.ensures.recorded (record { issuer = Some c.args.issuer; grant = c.args.grant }) key granted had)
 
@@ -162,12 +191,24 @@ returns-clause-answer g c =
     let entries = register.entries.items in
     let certificates = register.certificates.items in
     let taken = kept_taken judge entries certificates register.kept c.args.issuer c.deref.result.now c.deref.ensures.value c.in_ok-expect_issuer.ensures in
-    let has = issuer_has judge entries certificates register.kept c.args.issuer c.deref.result.now c.deref.ensures.value c.in_ok-expect_issuer.ensures c.index-parent.result.now c.index-parent.ensures in
-    let for = (for_inherited c.args.grant (subjects.Request c.in_ok-csr.csr) true false c.subject_from_csr.result c.inherit_extensions_from_csr_attributes-builder.result (for_subject c.args.grant (subjects.Request c.in_ok-csr.csr) false c.granted.result c.subject_from_csr.result c.granted.ensures.granted c.granted.ensures.rest.1 c.subject_from_csr.ensures) c.inherit_extensions_from_csr_attributes-builder.ensures) in
-    let issued = issued_by_other (arithmetic judge (g.S.Scheme.signs register.scheme) (g.S.Scheme.pair register.scheme)) c.args.word certificates c.args.issuer (IsChildBuilder c.args.grant (subjects.Request c.in_ok-csr.csr) true c.args.issuer_key.now) (IsEnrolBuilder c.args.grant c.args.request.now c.args.issuer_key.now) (enrol_builder c.args.grant c.args.request.now c.in_ok-csr.csr c.args.issuer_key.now c.in_ok-csr.ensures) c.in_ok-cert.cert (c.in_ok-cert.ensures.answer c.args.grant (subjects.Request c.in_ok-csr.csr) true certificates c.args.issuer for has) in
+    let has = issuer_has judge entries certificates register.kept c.args.issuer c.deref.result.now c.deref.ensures.value c.in_ok-expect_issuer.ensures
+    c.index-parent.result.now c.index-parent.ensures in
+    let for =
+    (for_inherited c.args.grant (subjects.Request c.in_ok-csr.csr) true false c.subject_from_csr.result c.inherit_extensions_from_csr_attributes-builder.result
+    (for_subject c.args.grant (subjects.Request c.in_ok-csr.csr) false c.granted.result c.subject_from_csr.result c.granted.ensures.granted
+    c.granted.ensures.rest.1 c.subject_from_csr.ensures) c.inherit_extensions_from_csr_attributes-builder.ensures) in
+    let issued = issued_by_other (arithmetic judge (g.S.Scheme.signs register.scheme) (g.S.Scheme.pair register.scheme)) c.args.word certificates c.args.issuer
+    (IsChildBuilder c.args.grant (subjects.Request c.in_ok-csr.csr) true c.args.issuer_key.now) (IsEnrolBuilder c.args.grant c.args.request.now
+    c.args.issuer_key.now) (enrol_builder c.args.grant c.args.request.now c.in_ok-csr.csr c.args.issuer_key.now c.in_ok-csr.ensures) c.in_ok-cert.cert
+    (c.in_ok-cert.ensures.answer c.args.grant (subjects.Request c.in_ok-csr.csr) true certificates c.args.issuer for has) in
     taken_both (record_steps entries c.args.issuer)
-    (request_step c.args.request.now ∷ signed_steps (arithmetic judge (g.S.Scheme.signs register.scheme) (g.S.Scheme.pair register.scheme)) c.args.word certificates c.args.issuer (IsEnrolBuilder c.args.grant c.args.request.now c.args.issuer_key.now))
-    taken ((c.in_ok-csr.csr, c.in_ok-csr.ensures), (issued_taken (arithmetic judge (g.S.Scheme.signs register.scheme) (g.S.Scheme.pair register.scheme)) c.args.word certificates c.args.issuer (IsEnrolBuilder c.args.grant c.args.request.now c.args.issuer_key.now) c.in_ok-cert.cert issued))
+    (request_step c.args.request.now ∷ signed_steps (arithmetic judge (g.S.Scheme.signs register.scheme) (g.S.Scheme.pair register.scheme))
+    c.args.word certificates c.args.issuer (IsEnrolBuilder c.args.grant c.args.request.now c.args.issuer_key.now))
+    taken (
+      (c.in_ok-csr.csr, c.in_ok-csr.ensures),
+      (issued_taken (arithmetic judge (g.S.Scheme.signs register.scheme) (g.S.Scheme.pair register.scheme)) c.args.word certificates c.args.issuer
+          (IsEnrolBuilder c.args.grant c.args.request.now c.args.issuer_key.now) c.in_ok-cert.cert issued),
+    )
 
 pub returns-clause-added : goal.returns-clause-added
 returns-clause-added g c =
@@ -175,9 +216,16 @@ returns-clause-added g c =
     let judge = g.S.Scheme.judge register.scheme in
     let entries = register.entries.items in
     let certificates = register.certificates.items in
-    let has = issuer_has judge entries certificates register.kept c.args.issuer c.deref.result.now c.deref.ensures.value c.in_ok-expect_issuer.ensures c.index-parent.result.now c.index-parent.ensures in
-    let for = (for_inherited c.args.grant (subjects.Request c.in_ok-csr.csr) true false c.subject_from_csr.result c.inherit_extensions_from_csr_attributes-builder.result (for_subject c.args.grant (subjects.Request c.in_ok-csr.csr) false c.granted.result c.subject_from_csr.result c.granted.ensures.granted c.granted.ensures.rest.1 c.subject_from_csr.ensures) c.inherit_extensions_from_csr_attributes-builder.ensures) in
-    let issued = issued_by_other (arithmetic judge (g.S.Scheme.signs register.scheme) (g.S.Scheme.pair register.scheme)) c.args.word certificates c.args.issuer (IsChildBuilder c.args.grant (subjects.Request c.in_ok-csr.csr) true c.args.issuer_key.now) (IsEnrolBuilder c.args.grant c.args.request.now c.args.issuer_key.now) (enrol_builder c.args.grant c.args.request.now c.in_ok-csr.csr c.args.issuer_key.now c.in_ok-csr.ensures) c.in_ok-cert.cert (c.in_ok-cert.ensures.answer c.args.grant (subjects.Request c.in_ok-csr.csr) true certificates c.args.issuer for has) in
+    let has = issuer_has judge entries certificates register.kept c.args.issuer c.deref.result.now c.deref.ensures.value c.in_ok-expect_issuer.ensures
+    c.index-parent.result.now c.index-parent.ensures in
+    let for =
+    (for_inherited c.args.grant (subjects.Request c.in_ok-csr.csr) true false c.subject_from_csr.result c.inherit_extensions_from_csr_attributes-builder.result
+    (for_subject c.args.grant (subjects.Request c.in_ok-csr.csr) false c.granted.result c.subject_from_csr.result c.granted.ensures.granted
+    c.granted.ensures.rest.1 c.subject_from_csr.ensures) c.inherit_extensions_from_csr_attributes-builder.ensures) in
+    let issued = issued_by_other (arithmetic judge (g.S.Scheme.signs register.scheme) (g.S.Scheme.pair register.scheme)) c.args.word certificates c.args.issuer
+    (IsChildBuilder c.args.grant (subjects.Request c.in_ok-csr.csr) true c.args.issuer_key.now) (IsEnrolBuilder c.args.grant c.args.request.now
+    c.args.issuer_key.now) (enrol_builder c.args.grant c.args.request.now c.in_ok-csr.csr c.args.issuer_key.now c.in_ok-csr.ensures) c.in_ok-cert.cert
+    (c.in_ok-cert.ensures.answer c.args.grant (subjects.Request c.in_ok-csr.csr) true certificates c.args.issuer for has) in
     record { place_is = c.in_ok-add.ensures.place; recorded = c.in_ok-add.ensures.ok.0; cert = c.in_ok-cert.cert; is = issued; kept = c.in_ok-add.ensures.ok.1 }
 
 pub returns-clause-recorded : goal.returns-clause-recorded

@@ -9,7 +9,8 @@ within line index is issuer = subst (λ (from : Option ℕ). IsIssuer from line.
 
 pub returns-in_err-issuer-clause-only : goal.returns-in_err-issuer-clause-only
 returns-in_err-issuer-clause-only c line index is issuer spelled =
-    absurd (c.in_err-issuer.ensures.only (decimal index) (keyed_words (Some index) line) (decimal_is_word index (omega (arith, within line index is issuer))) spelled)
+    absurd (c.in_err-issuer.ensures.only (decimal index) (keyed_words (Some index) line)
+    (decimal_is_word index (omega (arith, within line index is issuer))) spelled)
 
 pub returns-in_err-issuer-2-clause-only : goal.returns-in_err-issuer-2-clause-only
 returns-in_err-issuer-2-clause-only c line index is issuer spelled =

@@ -19,8 +19,11 @@ returns-then-number-gt-MOST_NUMBER-clause-only c number small spelled =
     absurd (search (rules, parsed))
 
 pub returns-clause-read : goal.returns-clause-read
-returns-clause-read c =
-    (omega (arith, c.if-number-gt-MOST_NUMBER.false), read_is c.args.word.now c.in_ok-number.number c.parse.result (subst BeginsAsNumber c.as_bytes.ensures.value (c.begins_as_number.ensures.0 (search rules))) c.parse.ensures.value.0 (search rules))
+returns-clause-read c = (
+  omega (arith, c.if-number-gt-MOST_NUMBER.false),
+  read_is c.args.word.now c.in_ok-number.number c.parse.result (subst BeginsAsNumber c.as_bytes.ensures.value (c.begins_as_number.ensures.0 (search rules)))
+      c.parse.ensures.value.0 (search rules),
+)
 
 pub returns-clause-only : goal.returns-clause-only
 returns-clause-only c number small spelled =

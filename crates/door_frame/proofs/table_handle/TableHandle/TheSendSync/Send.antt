@@ -17,7 +17,8 @@ kept_keyless : (p : Ptr) (k : Option known.the_row.Denot) → Keyless (kept p k)
 kept_keyless null_ptr None = tt
 kept_keyless null_ptr (Some x) = tt
 kept_keyless (block_ptr b o) None = tt
-kept_keyless (block_ptr b o) (Some x) = λ a. (part_keyless known.the_row table_send full_share x b o, frees.frees a (raw (lone known.the_row.mir)) (block_ptr b o))
+kept_keyless (block_ptr b o) (Some x) =
+    λ a. (part_keyless known.the_row table_send full_share x b o, frees.frees a (raw (lone known.the_row.mir)) (block_ptr b o))
 
 pub send : IsSend the_row
 send = record { owned = λ h vs. ((λ vss. (tt, (tt, tt))), kept_keyless h.inside h.known); leaving = λ k d w. tt }

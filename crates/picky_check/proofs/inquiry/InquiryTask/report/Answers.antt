@@ -15,7 +15,8 @@ returns-clause-reported c =
     IfOk-weaker c.report_by.result _ _ (λ report h. record {
       answer = h.0;
       rows = c.as_table.result.now;
-      is_table = subst (λ (rows : List VerdictRow). IsTable (table_in (job_held c.args.self.now.job) (contents_held c.args.read.now)) rows) (sym c.as_table.ensures)
+      is_table =
+          subst (λ (rows : List VerdictRow). IsTable (table_in (job_held c.args.self.now.job) (contents_held c.args.read.now)) rows) (sym c.as_table.ensures)
           (subst (λ (text : List ℕ). IsTable text (found_rows c.in_ok-table.table)) c.table_in.ensures c.in_ok-table.ensures.table);
       is_answer = h.1;
       reportable = h.2.reportable;
@@ -34,9 +35,11 @@ returns-in_err-table-clause-only c line is =
 
 pub returns-clause-only : goal.returns-clause-only
 returns-clause-only c line is =
-    let same = c.as_table.ensures ∙ c.in_ok-table.ensures.each_table is.rows (subst (λ (text : List ℕ). IsTable text is.rows) (sym c.table_in.ensures) is.is_table) in
+    let same =
+    c.as_table.ensures ∙ c.in_ok-table.ensures.each_table is.rows (subst (λ (text : List ℕ). IsTable text is.rows) (sym c.table_in.ensures) is.is_table) in
     gives_line is.answer line c.report_by.result is.status is.text (c.report_by.ensures.only is.answer
-    (subst (λ (rs : List VerdictRow). IsAnswerTo (verdict_of rs) (job_held c.args.self.now.job) (contents_held c.args.read.now) is.answer) (sym same) is.is_answer) is.reportable)
+    (subst (λ (rs : List VerdictRow). IsAnswerTo (verdict_of rs) (job_held c.args.self.now.job) (contents_held c.args.read.now) is.answer) (sym same)
+    is.is_answer) is.reportable)
 
 pub returns-clause-bad : goal.returns-clause-bad
 returns-clause-bad c bad =

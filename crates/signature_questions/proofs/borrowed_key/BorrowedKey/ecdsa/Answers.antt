@@ -4,4 +4,5 @@ use Rattle.signature_questions.proofs.borrowed_key.BorrowedKey.ecdsa.Goals as go
 
 pub returns : goal.returns
 returns c = λ key lends.
-    rw c.ecdsa_alg.ensures (ec_fits c.args.self.now key lends c.args.hash c.in_ok-curve.curve (sym c.is_named.ensures ∙ c.if-not-is_named.false) c.in_ok-curve.ensures.0 c.in_ok-curve.ensures.1)
+    rw c.ecdsa_alg.ensures (ec_fits c.args.self.now key lends c.args.hash c.in_ok-curve.curve (sym c.is_named.ensures ∙ c.if-not-is_named.false)
+    c.in_ok-curve.ensures.0 c.in_ok-curve.ensures.1)

@@ -7,14 +7,16 @@ pub loop-parent-preserved : goal.loop-parent-preserved
 loop-parent-preserved c = record {
   ahead = λ qs more.
       c.loop-parent.invariant.ahead qs
-      (chain_goes_on_with _ _ _ _ c.in-Some.ensures.cases.0 _ _ c.view.ensures.elements c.view-in-Some.ensures.elements None c.in_default-question.ensures qs more);
+      (chain_goes_on_with _ _ _ _ c.in-Some.ensures.cases.0 _ _ c.view.ensures.elements c.view-in-Some.ensures.elements None
+      c.in_default-question.ensures qs more);
   shorter = omega (arith, c.in-Some.ensures.cases.1, c.loop-parent.invariant.shorter);
 }
 
 pub returns-in-Some-question-clause-next : goal.returns-in-Some-question-clause-next
 returns-in-Some-question-clause-next c = λ others more.
     c.loop-parent.invariant.ahead _
-    (chain_goes_on_with _ _ _ _ c.in-Some.ensures.cases.0 _ _ c.view.ensures.elements c.view-in-Some.ensures.elements (Some (asked c.in-Some-question.question)) c.in-Some-question.ensures others more)
+    (chain_goes_on_with _ _ _ _ c.in-Some.ensures.cases.0 _ _ c.view.ensures.elements c.view-in-Some.ensures.elements (Some (asked c.in-Some-question.question))
+    c.in-Some-question.ensures others more)
 
 pub returns-in-Some-question-clause-fewer : goal.returns-in-Some-question-clause-fewer
 returns-in-Some-question-clause-fewer c = omega (arith, c.in-Some.ensures.cases.1, c.loop-parent.invariant.shorter)

@@ -12,10 +12,12 @@ loop-parent-preserved c = record {
 
 pub returns-in-Some-of_link-clause-next : goal.returns-in-Some-of_link-clause-next
 returns-in-Some-of_link-clause-next c = λ others more.
-    c.loop-parent.invariant.ahead _ (links_go_on _ _ _ _ _ c.in-Some.ensures.next (Some (asked c.in-Some-of_link.question)) c.in-Some-of_link.ensures others more)
+    c.loop-parent.invariant.ahead _
+    (links_go_on _ _ _ _ _ c.in-Some.ensures.next (Some (asked c.in-Some-of_link.question)) c.in-Some-of_link.ensures others more)
 
 pub returns-in-Some-of_link-clause-fewer : goal.returns-in-Some-of_link-clause-fewer
 returns-in-Some-of_link-clause-fewer c = omega (arith, c.in-Some.ensures.fewer, c.loop-parent.invariant.shorter)
 
 pub returns-clause-next : goal.returns-clause-next
-returns-clause-next c = c.loop-parent.invariant.ahead _ (links_end (view_elements c.loop-parent.self.child) c.loop-parent.self.parents c.in_default.ensures.next)
+returns-clause-next c =
+    c.loop-parent.invariant.ahead _ (links_end (view_elements c.loop-parent.self.child) c.loop-parent.self.parents c.in_default.ensures.next)

@@ -33,7 +33,8 @@ pub returns-clause-only : goal.returns-clause-only
 returns-clause-only c line is =
     let same = c.in_ok-table.ensures.each_table is.rows (subst (λ (text : List ℕ). IsTable text is.rows) (sym c.deref.ensures.value) is.is_table) in
     gives_line is.answer line c.report_by.result is.status is.text (c.report_by.ensures.only is.answer
-    (subst (λ (rs : List VerdictRow). IsAnswerTo (verdict_of rs) (job_held c.args.self.now) (certificates_in (contents_held c.args.read.now)) is.answer) (sym same) is.is_answer))
+    (subst (λ (rs : List VerdictRow). IsAnswerTo (verdict_of rs) (job_held c.args.self.now) (certificates_in (contents_held c.args.read.now)) is.answer)
+    (sym same) is.is_answer))
 
 pub returns-clause-bad : goal.returns-clause-bad
 returns-clause-bad c bad =

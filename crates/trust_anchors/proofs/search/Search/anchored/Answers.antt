@@ -24,14 +24,26 @@ loop-trail-preserved g c =
     let so_far = IsFirstSoFar (sought (g.S.Scheme.judge c.args.self.now.scheme.now) c.args.self.now) in
     let m = length c.args.self.now.anchors.now in
     record {
-      so_far = turned c.args.layer.now (λ some. so_far some c.loop-trail.first) (λ some. so_far some c.in_ok-first.first) c.loop-trail.trail-index (c.loop-trail.trail-index + 1) c.trail-item.result (add-one c.loop-trail.trail-index) less c.trail-item.is
+      so_far = turned c.args.layer.now (λ some. so_far some c.loop-trail.first) (λ some. so_far some c.in_ok-first.first) c.loop-trail.trail-index
+          (c.loop-trail.trail-index + 1) c.trail-item.result (add-one c.loop-trail.trail-index) less c.trail-item.is
           (c.in_ok-first.ensures.earlier) c.loop-trail.invariant.so_far;
-      counted = omega (arith, c.loop-trail.invariant.counted, c.in_ok-first.ensures.counted, one_more_length c.loop-trail.trail-index (c.loop-trail.trail-index + 1) m (add-one c.loop-trail.trail-index));
+      counted = omega (
+        arith,
+        c.loop-trail.invariant.counted,
+        c.in_ok-first.ensures.counted,
+        one_more_length c.loop-trail.trail-index (c.loop-trail.trail-index + 1) m (add-one c.loop-trail.trail-index),
+      );
     }
 
 pub returns : goal.returns
 returns g c = record {
   found = first_with (sought (g.S.Scheme.judge c.args.self.now.scheme.now) c.args.self.now) c.args.number c.args.layer.now c.loop-trail.first c.requires
-      (ended c.args.layer.now (λ some. IsFirstSoFar (sought (g.S.Scheme.judge c.args.self.now.scheme.now) c.args.self.now) some c.loop-trail.first) c.loop-trail.trail-index (omega arith) c.loop-trail.invariant.so_far);
-  counted = omega (arith, c.loop-trail.invariant.counted, mul-le c.loop-trail.trail-index (length c.args.self.now.anchors.now) (length c.args.layer.now) (length c.args.self.now.anchors.now) (omega arith) (omega arith));
+      (ended c.args.layer.now (λ some. IsFirstSoFar (sought (g.S.Scheme.judge c.args.self.now.scheme.now) c.args.self.now) some c.loop-trail.first)
+      c.loop-trail.trail-index (omega arith) c.loop-trail.invariant.so_far);
+  counted = omega (
+    arith,
+    c.loop-trail.invariant.counted,
+    mul-le c.loop-trail.trail-index (length c.args.self.now.anchors.now) (length c.args.layer.now) (length c.args.self.now.anchors.now) (omega arith)
+        (omega arith),
+  );
 }

@@ -14,11 +14,13 @@ pub returns-then-not-linked-clause-earlier : goal.returns-then-not-linked-clause
 returns-then-not-linked-clause-earlier g c = λ trails so_far.
     let s = sought (g.S.Scheme.judge c.args.self.now.scheme.now) c.args.self.now in
     first_failed (Continues s c.args.parent.now) trails c.args.trail.now c.args.first
-    (continues_not s c.args.parent.now c.args.number c.args.trail.now c.end-end.result.now c.requires.number c.end-end.ensures (iff_false c.in_ok-linked.ensures.answer c.if-not-linked.true)) so_far
+    (continues_not s c.args.parent.now c.args.number c.args.trail.now c.end-end.result.now c.requires.number c.end-end.ensures
+    (iff_false c.in_ok-linked.ensures.answer c.if-not-linked.true)) so_far
 
 pub returns-clause-earlier : goal.returns-clause-earlier
 returns-clause-earlier g c = λ trails so_far.
     let s = sought (g.S.Scheme.judge c.args.self.now.scheme.now) c.args.self.now in
     subst (λ (t : List ℕ). IsFirstOf (Continues s c.args.parent.now) (trails ++ c.args.trail.now ∷ []) (Some t)) (sym c.in_ok-copy.ensures)
     (first_taken (Continues s c.args.parent.now) trails c.args.trail.now c.args.first (c.is_before.ensures.0 c.if-not-is_before.false)
-    (continues_by s c.args.parent.now c.args.number c.args.trail.now c.end-end.result.now c.requires.number c.end-end.ensures (c.in_ok-linked.ensures.answer.0 c.if-not-linked.false)) so_far)
+    (continues_by s c.args.parent.now c.args.number c.args.trail.now c.end-end.result.now c.requires.number c.end-end.ensures
+    (c.in_ok-linked.ensures.answer.0 c.if-not-linked.false)) so_far)

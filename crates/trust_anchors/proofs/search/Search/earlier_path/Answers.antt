@@ -18,5 +18,7 @@ returns-in-None-clause-earlier g c = λ trails so_far.
 pub returns-in_ok-pool-in-Some-clause-earlier : goal.returns-in_ok-pool-in-Some-clause-earlier
 returns-in_ok-pool-in-Some-clause-earlier g c = λ trails so_far.
     let s = sought (g.S.Scheme.judge c.args.self.now.scheme.now) c.args.self.now in
-    path_taken s trails c.args.trail.now c.args.first c.args.number c.end-end.result.now (record { pool = c.in_ok-pool-in-Some.pool; anchor = c.in-Some.anchor }) c.requires.number c.end-end.ensures c.in_ok-pool-in-Some.ensures
-    (subst (λ (o : Option ℕ). IsFirstAnchor s c.args.number c.end-end.result.now o) c.in-Some.is c.in_ok-found.ensures.found) (c.is_before_path.ensures.0 c.if-not-is_before_path.false) so_far
+    path_taken s trails c.args.trail.now c.args.first c.args.number c.end-end.result.now
+    (record { pool = c.in_ok-pool-in-Some.pool; anchor = c.in-Some.anchor }) c.requires.number c.end-end.ensures c.in_ok-pool-in-Some.ensures
+    (subst (λ (o : Option ℕ). IsFirstAnchor s c.args.number c.end-end.result.now o) c.in-Some.is c.in_ok-found.ensures.found)
+    (c.is_before_path.ensures.0 c.if-not-is_before_path.false) so_far

@@ -29,11 +29,14 @@ loop-number-preserved g c =
     let m = length c.args.self.now.anchors.now in
     let few : length c.deref.result.now ≤ n + 1 = omega (arith, c.loop-number.invariant.trails.few, ap length c.deref.ensures.value) in
     let counted : c.extended.new.steps ≤ c.args.steps.now + (c.loop-number.number + 1) * most_verified s =
-    one_more_counted (length c.deref.result.now) (length c.deref-in-loop-number.result.now) n m (most_verified s) c.loop-number.number c.args.steps.now c.loop-number.steps c.anchored.new.steps c.extended.new.steps
-    (for_one_length (length c.deref.result.now) n m few) (ap length (c.deref-in-loop-number.ensures.value ∙ sym c.deref.ensures.value)) c.loop-number.invariant.counted c.anchored.ensures.counted c.extended.ensures.counted in
+    one_more_counted (length c.deref.result.now) (length c.deref-in-loop-number.result.now) n m (most_verified s)
+    c.loop-number.number c.args.steps.now c.loop-number.steps c.anchored.new.steps c.extended.new.steps
+    (for_one_length (length c.deref.result.now) n m few) (ap length (c.deref-in-loop-number.ensures.value ∙ sym c.deref.ensures.value))
+    c.loop-number.invariant.counted c.anchored.ensures.counted c.extended.ensures.counted in
     record {
       trails = c.in_ok-layer-2.ensures.longer;
-      none = none_found s c.loop-number.number (c.loop-number.number + 1) c.in_ok-path.field-0 (add-one c.loop-number.number) c.in_default.not-Some c.loop-number.invariant.none c.in_ok-path.ensures.found;
+      none = none_found s c.loop-number.number (c.loop-number.number + 1) c.in_ok-path.field-0 (add-one c.loop-number.number)
+          c.in_default.not-Some c.loop-number.invariant.none c.in_ok-path.ensures.found;
       counted = counted;
     }
 
@@ -69,8 +72,10 @@ returns-in_err-layer-2-clause-counted g c =
     let m = length c.args.self.now.anchors.now in
     let few : length c.deref.result.now ≤ n + 1 = omega (arith, c.loop-number.invariant.trails.few, ap length c.deref.ensures.value) in
     let counted : c.extended.new.steps ≤ c.args.steps.now + (c.loop-number.number + 1) * most_verified s =
-    one_more_counted (length c.deref.result.now) (length c.deref-in-loop-number.result.now) n m (most_verified s) c.loop-number.number c.args.steps.now c.loop-number.steps c.anchored.new.steps c.extended.new.steps
-    (for_one_length (length c.deref.result.now) n m few) (ap length (c.deref-in-loop-number.ensures.value ∙ sym c.deref.ensures.value)) c.loop-number.invariant.counted c.anchored.ensures.counted c.extended.ensures.counted in
+    one_more_counted (length c.deref.result.now) (length c.deref-in-loop-number.result.now) n m (most_verified s)
+    c.loop-number.number c.args.steps.now c.loop-number.steps c.anchored.new.steps c.extended.new.steps
+    (for_one_length (length c.deref.result.now) n m few) (ap length (c.deref-in-loop-number.ensures.value ∙ sym c.deref.ensures.value))
+    c.loop-number.invariant.counted c.anchored.ensures.counted c.extended.ensures.counted in
     of_16 c.loop-number.number (most_verified s) c.args.steps.now c.extended.new.steps (omega arith) counted
 
 pub returns-clause-found : goal.returns-clause-found
@@ -86,5 +91,6 @@ returns-clause-counted g c =
     let n = length c.args.self.now.pool.now in
     let m = length c.args.self.now.anchors.now in
     let few : length c.deref-2.result.now ≤ n + 1 = omega (arith, c.loop-number.invariant.trails.few, ap length c.deref-2.ensures.value) in
-    part_of_16 (length c.deref-2.result.now * m) c.loop-number.number (most_verified s) c.args.steps.now c.loop-number.steps c.anchored-2.new.steps (omega arith)
+    part_of_16 (length c.deref-2.result.now * m) c.loop-number.number (most_verified s) c.args.steps.now c.loop-number.steps c.anchored-2.new.steps
+    (omega arith)
     (for_anchors (length c.deref-2.result.now) n m few) c.loop-number.invariant.counted c.anchored-2.ensures.counted

@@ -12,7 +12,9 @@ pub returns-clause-found : goal.returns-clause-found
 returns-clause-found g c =
     let judge = g.S.Scheme.judge c.args.scheme.now in
     let isnt : is_err c.expect_valid.result ≡ false = sym c.is_err.ensures.value ∙ c.if-is_err.false in
-    let valid : IsWithinWindow (window_on c.args.date.now) c.args.cert.now.elements = holds_unless_err c.expect_valid.result _ _ isnt c.expect_valid.ensures.answer in
+    let valid : IsWithinWindow (window_on c.args.date.now) c.args.cert.now.elements =
+    holds_unless_err c.expect_valid.result _ _ isnt c.expect_valid.ensures.answer in
     let anchors : c.deref.result.now ≡ c.args.self.now = c.deref.ensures.value ∙ c.self.view_is in
     search_answers judge c.args.date.now c.args.cert.now c.args.pool.now c.args.self.now c.args.purpose c.in_ok-first_path.field-0 valid
-    (subst (λ (anchors : List Anchor). IsFound (searched judge c.args.date.now c.args.cert.now c.args.pool.now anchors c.args.purpose) c.in_ok-first_path.field-0) anchors c.in_ok-first_path.ensures.found)
+    (subst (λ (anchors : List Anchor). IsFound (searched judge c.args.date.now c.args.cert.now c.args.pool.now anchors c.args.purpose)
+    c.in_ok-first_path.field-0) anchors c.in_ok-first_path.ensures.found)
