@@ -2,6 +2,7 @@ pub mod SignedTables
 pub mod StatedDigest
 pub mod ImageHashes
 pub mod TableAnswers
+pub mod SameTables
 pub mod CheckExits
 pub mod AskedWords
 pub mod Reported

@@ -39,7 +39,7 @@ module _ (a b : Judge) where
         (record { fits = h.fits; message_is = refl; signature_is = refl }) h.judged;
   }
 
-  signed_by : (parent child : CertificateElements) → Admits (IsOfLink parent child) a b → IsSignedBy a parent child → IsSignedBy b parent child
+  pub signed_by : (parent child : CertificateElements) → Admits (IsOfLink parent child) a b → IsSignedBy a parent child → IsSignedBy b parent child
   signed_by parent child admits h = record {
     algorithm = h.algorithm;
     info = h.info;

@@ -1,6 +1,6 @@
 -- What is reported under a scheme is reported under one that has the same verdicts on the questions.
 use Rattle.std.proofs.Common.{ℕ, List, [], ◌∷◌, ◌++◌, Option, Bool, true, false, Result, Ok, Err, inl, inr, refl, sym, ◌∙◌, subst}
-use Rattle.std.specs.Prelude.{⊤, length}
+use Rattle.std.specs.Prelude.{⊤, MatchResult, length}
 use Rattle.cms_types.specs.SignedDataElements.{SignedDataElements}
 use Rattle.cms_types.specs.SignerElements.{SignerElements}
 use Rattle.der_core.specs.Rules.{Rule, IsFirstBroken}
@@ -23,8 +23,8 @@ use Rattle.authenticode_core.specs.LinkedPath.{IsUnlinkedAt}
 use Rattle.authenticode_core.specs.Policy.{window_of}
 use Rattle.authenticode_core.specs.SignedFields.{IndirectData, IsFirstSigner, signed_message}
 use Rattle.authenticode_core.specs.SignerRules.{IsBadlyStamped, IsUnvouched, IsValidOrExcusable, signer_rules}
-use Rattle.authenticode_core.specs.SigningRules.{IsBadlySigned, signing_rules}
-use Rattle.authenticode_core.specs.Trusted.{IsAnswer, IsRefusedFor, asked, basic_rules, policy_rules, shape_rules}
+use Rattle.authenticode_core.specs.SigningRules.{IsBadlySigned, RefusesAuthenticodeBy, signing_rules}
+use Rattle.authenticode_core.specs.Trusted.{IsAnswer, IsRefusedFor, IsTrusted, asked, basic_rules, policy_rules, shape_rules}
 use Rattle.authenticode_core.specs.ListRules.{ca_rules}
 use Rattle.authenticode_core.specs.declared.accepted.Accepted.{Accepted}
 use Rattle.authenticode_core.specs.declared.accepted.Excuse.{Excuse}
@@ -393,3 +393,11 @@ answered a b policy octets (Err (Authenticode e)) agree (inl h) = inl h
 answered a b policy octets (Err (Authenticode e)) agree (inr (f, has, broken)) =
     inr (f, has, first_broken (policy_rules a policy f) (policy_rules b policy f) (policy_same f a b (agree f has) policy) e broken)
 answered a b policy octets (Err Memory) agree h = h
+
+pub data_answered : (a b : Judge) (policy : Policy) (f : SignedDataElements) (answer : Result Accepted AuthenticodeError) → Agree (IsQuestion f) a b
+    → MatchResult answer (IsTrusted a policy f) (RefusesAuthenticodeBy (policy_rules a policy f))
+    → MatchResult answer (IsTrusted b policy f) (RefusesAuthenticodeBy (policy_rules b policy f))
+data_answered a b policy f (Ok result) agree h = trusted a b f (admitted _ a b agree) policy result h
+data_answered a b policy f (Err e) agree (inl broken) =
+    inl (first_broken (policy_rules a policy f) (policy_rules b policy f) (policy_same f a b agree policy) e broken)
+data_answered a b policy f (Err e) agree (inr memory) = inr memory

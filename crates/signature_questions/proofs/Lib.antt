@@ -16,5 +16,6 @@ pub mod AskedWords
 pub mod OneList
 pub mod WrittenLines
 pub mod ReadCauses
+pub mod Determined
 pub mod OneLine
 pub mod LineReports

@@ -34,3 +34,26 @@ AreRowsOf judge Asked = AreRowsFor judge Asked (λ verdict. verdict ≢ Reject)
 -- the rows of all questions that are accepted; the others may be left out
 abbrev pub AreAcceptedRowsOf : Judge → (Question → Type 0) → List VerdictRow → Type 0
 AreAcceptedRowsOf judge Asked = AreRowsFor judge Asked (λ verdict. verdict ≡ Accept)
+
+-- The rows may be those of other questions too. Each that names the signature of one of these
+-- questions has the verdict of the scheme on it, and each of these whose verdict must be listed has
+-- its row.
+pub record HasRowsFor (judge : Judge) (Asked : Question → Type 0) (IsDue : Verdict → Type 0)
+    (rows : List VerdictRow) : Type 0 where
+  pub judged : (q : Question) → Asked q → (row : VerdictRow) → Contains rows row
+      → row.signature ≡ digests_of q → row.verdict ≡ verdict_on judge q
+  pub due : (q : Question) → Asked q → IsDue (verdict_on judge q) → Contains rows (row_of judge q)
+
+-- a row for each question that isn't rejected, among any others
+abbrev pub HasRowsOf : Judge → (Question → Type 0) → List VerdictRow → Type 0
+HasRowsOf judge Asked = HasRowsFor judge Asked (λ verdict. verdict ≢ Reject)
+
+-- a row for each question that is accepted, among any others
+abbrev pub HasAcceptedRowsOf : Judge → (Question → Type 0) → List VerdictRow → Type 0
+HasAcceptedRowsOf judge Asked = HasRowsFor judge Asked (λ verdict. verdict ≡ Accept)
+
+-- No question of the ones has the digests of one of the others, and another verdict.
+abbrev pub AreApart : Judge → (Question → Type 0) → (Question → Type 0) → Type 0
+AreApart judge Asked Others =
+    (q r : Question) → Asked q → Others r → digests_of q ≡ digests_of r
+    → verdict_on judge q ≡ verdict_on judge r

@@ -18,7 +18,10 @@ mod reading;
 mod words;
 
 pub use chain_questions::ChainQuestions;
-pub use laws::{questions_are_listed, questions_decide, questions_decide_chains, tables_decide};
+pub use laws::{
+    questions_are_determined, questions_are_listed, questions_decide, questions_decide_chains,
+    shared_tables_decide, tables_decide,
+};
 pub use message::Message;
 pub use program::{Commands, run};
 pub use question::Question;

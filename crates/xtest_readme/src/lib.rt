@@ -5,6 +5,8 @@
 #[cfg(test)]
 mod asking;
 #[cfg(test)]
+mod citing;
+#[cfg(test)]
 mod counting;
 #[cfg(test)]
 mod of_asn1_types;
