@@ -1,6 +1,7 @@
 //! A verdict table that is known before the files are read.
 
-use picky_check::{BAD_TABLE, KnownTable, MemShelf, MemSink, REFUSED, run_with};
+use picky_check::{BAD_TABLE, Commands, KnownTable, MemShelf, MemSink, REFUSED};
+use program_frame::Program;
 use std::alloc::{AllocError, Global};
 use std::test::Fail;
 
@@ -24,7 +25,7 @@ fn outcome(
     for word in ["basic", "SIG", "TABLE", "00"] {
         words.push(String::from_str(alloc, word)?)?;
     }
-    let status = run_with(alloc, &words, known, &mut shelf, &mut out);
+    let status = Commands { known }.run(alloc, &words, &mut shelf, &mut out);
     Ok((status, out))
 }
 
