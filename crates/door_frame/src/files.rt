@@ -14,7 +14,9 @@ pub struct LentFile<'a> {
 }
 
 /// Borrowed files, if there was memory for them.
-pub fn borrowed<'a>(files: &'a Result<Vec<LentFile<'a>>, AllocError>) -> Option<&'a [LentFile<'a>]>
+pub fn borrowed<'r, 'a>(
+    files: &'r Result<Vec<LentFile<'a>>, AllocError>,
+) -> Option<&'r [LentFile<'a>]>
     ensures { (given : Files)
         → IfOk files.now (λ files. (name : List ℕ) → lent_files files.items name ≡ given name)
         → AreLent result given }

@@ -18,11 +18,11 @@ use std::alloc::{AllocError, Global};
 /// with these lengths; and there are no others. Returns the exit status; the line is at the start of
 /// `line`, and `written` is its length.
 #[unsafe(no_mangle)]
-pub extern "C" fn picky_chain_bytes(
+pub extern "C" fn picky_chain_bytes<'a>(
     alloc: Global,
     words: &[u8],
-    table: &[u8],
-    certificates: &[u8],
+    table: &'a [u8],
+    certificates: &'a [u8],
     lengths: &[usize],
     line: &mut [u8],
     written: &mut usize,

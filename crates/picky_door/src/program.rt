@@ -55,12 +55,12 @@ pub extern "C" fn picky_pe_bytes(
 /// The same under the table of a handle, which has been parsed before; with no table in it, there is
 /// no file TABLE. The handle is left as it was.
 #[unsafe(no_mangle)]
-pub extern "C" fn picky_pe_with_table(
+pub extern "C" fn picky_pe_with_table<'a>(
     alloc: Global,
     words: &[u8],
-    program: &[u8],
+    program: &'a [u8],
     table: &mut TableHandle,
-    list: &[u8],
+    list: &'a [u8],
     line: &mut [u8],
     written: &mut usize,
 ) -> u8

@@ -27,13 +27,13 @@ returns-in-Some-clause-called c =
 pub returns-in-None-clause-vouched_for : goal.returns-in-None-clause-vouched_for
 returns-in-None-clause-vouched_for c low =
     let files = chain_files (text_of c.args.table.now.known) c.args.certificates.now c.args.lengths.now in
-    c.call.ensures.accepted low files (c.borrowed-2.ensures files (IfOk-weaker c.pooled-files.result _ _ (λ fs are name. are name
+    c.call.ensures.accepted low files (c.borrowed-in-None.ensures files (IfOk-weaker c.pooled-files.result _ _ (λ fs are name. are name
     ∙ without_table (pooled_files c.args.certificates.now c.args.lengths.now name) (text_of c.args.table.now.known) (bytes_eq (codes "TABLE") name)
     (sym (ap text_of c.in-None.ensures.table))) c.pooled-files.ensures))
 
 pub returns-in-None-clause-called : goal.returns-in-None-clause-called
 returns-in-None-clause-called c =
     let files = chain_files (text_of c.args.table.now.known) c.args.certificates.now c.args.lengths.now in
-    c.call.ensures.called files (c.borrowed-2.ensures files (IfOk-weaker c.pooled-files.result _ _ (λ fs are name. are name
+    c.call.ensures.called files (c.borrowed-in-None.ensures files (IfOk-weaker c.pooled-files.result _ _ (λ fs are name. are name
     ∙ without_table (pooled_files c.args.certificates.now c.args.lengths.now name) (text_of c.args.table.now.known) (bytes_eq (codes "TABLE") name)
     (sym (ap text_of c.in-None.ensures.table))) c.pooled-files.ensures))
