@@ -25,13 +25,13 @@ pub fn run<O: Sink>(alloc: Global, count: u8, out: &mut O) -> u8
 fn report_of(alloc: Global, count: u8) -> Result<Report, Stop>
     ensures { Reports reporting (IsDemonstration count) result }
 {
-    match demonstrate(alloc, count) {
-        Ok(demonstration) => Ok(Report {
-            status: ACCEPTED,
-            line: demonstration_line(alloc, &demonstration)?,
-        }),
-        Err(_) => Err(Stop::Memory),
-    }
+    let Ok(demonstration) = demonstrate(alloc, count) else {
+        return Err(Stop::Memory);
+    };
+    Ok(Report {
+        status: ACCEPTED,
+        line: demonstration_line(alloc, &demonstration)?,
+    })
 }
 
 /// The line of a demonstration, `demo steps=N roots=R accepted=K sum=S` and a newline.
