@@ -1,13 +1,11 @@
 -- A run of a demonstration, by what was reported and delivered.
-use Rattle.std.proofs.Common.{◌≡◌, ◌⊎◌, ℕ, List, length, Result, Ok, Err, inl, inr, ap, subst, ◌∙◌, arith}
+use Rattle.std.proofs.Common.{◌≡◌, ◌⊎◌, ℕ, List, length, Ok, inl, inr, ap, subst, ◌∙◌, arith}
 use Rattle.std.specs.Prelude.{string_bytes}
 use Rattle.der_core.specs.Counts.{FailsOnce}
 use Rattle.program_frame.specs.Ending.{Delivers}
 use Rattle.program_frame.specs.Reports.{IsReportOf, Reports}
 use Rattle.program_frame.specs.Sink.{SinkState, Appends, IsCutShort}
 use Rattle.program_frame.specs.declared.report.Report.{Report}
-use Rattle.program_frame.specs.declared.stop.Stop.{Stop}
-use Rattle.program_frame.specs.declared.stop.Stop.TheVariants as stop
 use Rattle.program_frame.proofs.Failing.{none_failed}
 use Rattle.program_frame.proofs.Reporting.{reported_is}
 use Rattle.demo_core.specs.Demonstration.{IsDemonstration, report_line}
@@ -24,10 +22,6 @@ pub line_reports : (count : ℕ) (demonstration : Demonstration) (report : Repor
 line_reports count demonstration report is h =
     reported_is reporting (IsDemonstration count) demonstration (Ok report) is h
     (λ other also reportable. subst (λ (d : Demonstration). IsReportOf reporting d report) (one_report count demonstration other is also) h)
-
--- memory ran out
-pub memory_reports : (count : ℕ) (s : Stop) → s ≡ stop.Memory → Reports reporting (IsDemonstration count) (Err s)
-memory_reports count s is = record { reported = tt; stopped = is; only = λ demonstration one reportable. is }
 
 -- ---- runs
 
