@@ -26,6 +26,7 @@ import ordered_program
 import pool_questions
 import signed_program
 import verdict_table
+from common.command import ENDING
 from common.openssl import openssl
 from gate.check_program_calls import STORED, checked
 from gate.programs_stand_in import StandIn
@@ -346,9 +347,17 @@ class EndTest(unittest.TestCase):
                 done = subprocess.run([sys.executable, TOOLS / tool, pipe, Path(folder, "out")], capture_output=True, timeout=100)
                 self.assertEqual((done.returncode, b"isn't a regular file" in done.stderr), (1, True), tool)
 
+    def heed(self, *numbers):
+        """Signals that a job in the background ignores aren't ignored by what the test starts."""
+        for number in numbers:
+            if signal.getsignal(number) is signal.SIG_IGN:
+                signal.signal(number, signal.SIG_DFL)
+                self.addCleanup(signal.signal, number, signal.SIG_IGN)
+
     def test_signals(self):
         """What was written for the call is removed, and it ends by the signal; so does the program that it waits for."""
-        for number in signal.SIGTERM, signal.SIGINT, signal.SIGHUP:
+        self.heed(*ENDING)
+        for number in ENDING:
             with TemporaryDirectory() as folder:
                 program, root, stubs = self.files(folder)
                 folder_of_stubs(stubs, picky_pe=f"echo $$ > {folder}/waits; exec sleep 1000")
@@ -377,9 +386,10 @@ class EndTest(unittest.TestCase):
             "        os.kill(os.getpid(), signal.{})\n"
             "subprocess.Popen = Slow\n"
             "command.run(lambda words: calls.called(['sleep', '1000']).returncode, '')\n")
-        for name in "SIGTERM", "SIGINT", "SIGHUP":
-            done = subprocess.run([sys.executable, "-c", script.format(name)], env=os.environ | {"PYTHONPATH": str(TOOLS)}, capture_output=True, timeout=100)
-            self.assertEqual((done.returncode, done.stderr), (-getattr(signal, name), b""))
+        self.heed(*ENDING)
+        for number in ENDING:
+            done = subprocess.run([sys.executable, "-c", script.format(number.name)], env=os.environ | {"PYTHONPATH": str(TOOLS)}, capture_output=True, timeout=100)
+            self.assertEqual((done.returncode, done.stderr), (-number, b""))
             self.assert_ended(int(done.stdout))
 
     def assert_ended(self, pid):
