@@ -45,7 +45,7 @@ from golden.compare_anchor import row
 HERE = Path(__file__).resolve().parent
 KINDS = "all signed", "one signed"
 # The function that counts a signature and verifies it; if it is inlined, the one that it alone calls.
-COUNTING = "trust_anchors::search::Search::is_link::", "x509_core::cert::Cert::expect_link::"
+COUNTING = "trust_anchors::search::Search::is_signed_link::", "x509_core::cert::Cert::expect_link::"
 FORM = "basicConstraints=critical,CA:{}\nsubjectKeyIdentifier=none\nauthorityKeyIdentifier=none\n"
 
 

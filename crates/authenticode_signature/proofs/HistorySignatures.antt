@@ -1,7 +1,7 @@
 -- Signatures by the certificates of an issuing history are trusted exactly where the history allows it.
 use Rattle.std.proofs.Common.{◌≡◌, ◌+◌, ℕ, suc, List, [], ◌∷◌, ◌++◌, Result, Ok, Err, IfOk, length}
 use Rattle.std.proofs.Common.{inl, inr, refl, sym, ap, subst, ◌∙◌, arith, append_assoc, length-append}
-use Rattle.std.specs.Prelude.{⊤}
+use Rattle.std.specs.Prelude.{⊤, ℤ}
 use Rattle.asn1_types.specs.declared.generalized_time.GeneralizedTime.{GeneralizedTime}
 use Rattle.cms_types.specs.SignedDataElements.{SignedDataElements}
 use Rattle.der_core.specs.DerElement.{DerElement}
@@ -30,7 +30,8 @@ use Rattle.authenticode_core.proofs.OneSigning.{same_bag, signer_once}
 use Rattle.authenticode_core.proofs.PlaceSteps.{here, none_behind}
 use Rattle.authenticode_core.proofs.PolicyOrder.{one_trusted}
 use Rattle.authenticode_core.proofs.WalkSteps.{one_path, same_certificate}
-use Rattle.authenticode_signature.specs.HistorySignature.{IsSignerOf, HaveOtherSubjects, all_checks_at, by_the_first_over, elements_of, indices_from}
+use Rattle.authenticode_signature.specs.HistorySignature.{IsSignerOf, HaveOtherSubjects, all_checks_at, by_the_first_over, indices_from}
+use Rattle.authenticode_parts.specs.Carried.{elements_of}
 
 -- ---- the indices of the certificates
 
@@ -108,14 +109,14 @@ named_in judge history certificates issued index (issuer ∷ issuers) child (par
 -- ---- trust
 
 module _ (judge : Judge) (history : History) (certificates : List KeptCertificate) (date : GeneralizedTime) (issuers : List ℕ) (cert : KeptCertificate)
-    (parents : List KeptCertificate) (file_hash : List ℕ) (f : SignedDataElements)
+    (parents : List KeptCertificate) (now : ℤ) (file_hash : List ℕ) (f : SignedDataElements)
     (s : IsSignerOf judge history certificates date issuers cert parents) (is_bag : IsBagOf f (elements_of (cert ∷ parents)))
     (vouches : VouchesFor judge f file_hash 0) where
   abbrev bag : List CertificateElements
   bag = elements_of (cert ∷ parents)
 
   abbrev policy : Policy
-  policy = all_checks_at date file_hash
+  policy = all_checks_at date now file_hash
 
   abbrev path : List ℕ
   path = indices_from 1 parents

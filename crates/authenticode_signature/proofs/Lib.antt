@@ -14,3 +14,6 @@ pub mod Requests
 pub mod Stamps
 pub mod Verdicts
 pub mod HistorySignatures
+pub mod KeptAncestors
+pub mod SignatureExamples
+pub mod GivenBags

@@ -1,5 +1,8 @@
 -- A made signature is one as in a signature file.
 use Rattle.std.proofs.Common.{◌≡◌, ℕ, List, [], ◌∷◌, Option, inl, inr, sym, subst}
+use Rattle.std.proofs.Math.Logic.{∥∥₁_elim}
+use Rattle.std.specs.Coded.{Coded-set, coded_list}
+use Rattle.x509_core.specs.Facts.CertificateParts.{coded_elements}
 use Rattle.cms_types.specs.Pkcs7.{pkcs7}
 use Rattle.cms_types.specs.SignedData.{signed_data_elements}
 use Rattle.cms_types.specs.SignedDataElements.{SignedDataElements}
@@ -118,12 +121,17 @@ module _ (judge : Judge) (signs : Signs) (pair : Pair) (f : SignedDataElements) 
   same_first : (a b : CertificateElements) (xs ys : List CertificateElements) → a ∷ xs ≡ b ∷ ys → (a ≡ b) × (xs ≡ ys)
   same_first a b xs ys e = (cc, cc)
 
+  bags-set : (a b : List CertificateElements) → IsProp (a ≡ b)
+  bags-set a b = Coded-set (coded_list coded_elements) a b
+
   pub made_file : (value : Pkcs7Certificate) → IsMadeOf (arithmetic judge signs pair) f hash file_hash name key (signed_data_elements value.signed_data)
-      → (first : CertificateElements) (others : List CertificateElements) → IsBagOf f (first ∷ others) → IsMadeWith pair key first others
+      → (first : CertificateElements) (others : List CertificateElements) → ∥ IsBagOf f (first ∷ others) ∥₁ → IsMadeWith pair key first others
       → (kind : CertificateType) (octets : List ℕ) → IsDer (pkcs7 value) → IsSpelledWhole octets (wrapped kind (encoding (pkcs7 value)))
       → Carries octets first others
   made_file value m first others bag by kind octets der file =
-      let same = same_first first m.first others m.others (one_bag _ (first ∷ others) (m.first ∷ m.others) bag m.signer.bag) in
+      let one : first ∷ others ≡ m.first ∷ m.others = ∥∥₁_elim bag (bags-set (first ∷ others) (m.first ∷ m.others))
+      (λ is. one_bag _ (first ∷ others) (m.first ∷ m.others) is m.signer.bag) in
+      let same = same_first first m.first others m.others one in
       subst (λ (c : CertificateElements). Carries octets c others) (sym same.0)
       (subst (Carries octets m.first) (sym same.1)
       (made_by value kind octets der file m

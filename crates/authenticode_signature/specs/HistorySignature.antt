@@ -1,22 +1,17 @@
 -- Signatures by a certificate of an issuing history: what a signature contains, under which policy it
 -- is checked, and what is reported if it is accepted (RFC 5280 6.1).
-use Rattle.std.specs.Prelude.{⊤, ℕ, suc, List, [], ◌∷◌, map, Some}
+use Rattle.std.specs.Prelude.{⊤, ℕ, ℤ, suc, List, [], ◌∷◌, Some}
 use Rattle.asn1_types.specs.declared.generalized_time.GeneralizedTime.{GeneralizedTime}
 use Rattle.key_core.specs.Verifying.{Judge}
 use Rattle.x509_core.specs.History.{IssuingStep, History, HasStep, AreIssuers, IsDuring}
 use Rattle.x509_core.specs.Issued.{HasCert, AreCertsAt, IsIssued}
 use Rattle.x509_core.specs.KeptCertificate.{KeptCertificate}
 use Rattle.x509_core.specs.declared.window.DateCheck.TheVariants as dates
-use Rattle.x509_types.specs.CertificateElements.{CertificateElements}
 use Rattle.authenticode_core.specs.Names.{HasSubject}
 use Rattle.authenticode_core.specs.Policy.{first_policy}
 use Rattle.authenticode_core.specs.declared.accepted.Accepted.{Accepted}
 use Rattle.authenticode_core.specs.declared.accepted.Excuse.TheVariants as excuses
 use Rattle.authenticode_core.specs.declared.policy.Policy.{Policy}
-
--- the fields of the certificates
-abbrev pub elements_of : List KeptCertificate → List CertificateElements
-elements_of certificates = map (λ cert. cert.elements) certificates
 
 -- none of the parents has the subject of the certificate
 abbrev pub HaveOtherSubjects : KeptCertificate → (parents : List KeptCertificate) → Type 0
@@ -39,17 +34,18 @@ pub record IsSignerOf (judge : Judge) (history : History) (certificates : List K
   pub are : AreCertsAt certificates issuers parents
   pub others : HaveOtherSubjects cert parents
 
--- all checks at the date, for this digest of the file, without a trust list or excluded names
-abbrev pub all_checks_at : GeneralizedTime → (file_hash : List ℕ) → Policy
-all_checks_at date file_hash =
-    record first_policy { file_hash = Some file_hash; date = dates.Exact date }
+-- all checks at the date, for this digest of the file, without a trust list or excluded names; so the
+-- time at which a list would count is of no matter
+abbrev pub all_checks_at : GeneralizedTime → (now : ℤ) → (file_hash : List ℕ) → Policy
+all_checks_at date now file_hash =
+    record first_policy { file_hash = Some file_hash; date = dates.Exact date; now = now }
 
--- consecutive indices from one on, as many as there are certificates
-abbrev pub indices_from : ℕ → List KeptCertificate → List ℕ
+-- consecutive indices from one on, as many as the list is long
+abbrev pub indices_from : {A : Type 0} → ℕ → List A → List ℕ
 indices_from index [] = []
-indices_from index (cert ∷ others) = index ∷ indices_from (suc index) others
+indices_from index (x ∷ others) = index ∷ indices_from (suc index) others
 
 -- the first certificate is the signer's, and its path all others, without an excuse
-abbrev pub by_the_first_over : (parents : List KeptCertificate) → Accepted
+abbrev pub by_the_first_over : {A : Type 0} → (parents : List A) → Accepted
 by_the_first_over parents =
     record { signer = Some 0; path = indices_from 1 parents; excuse = excuses.None }

@@ -16,6 +16,7 @@ pub mod Making
 pub mod MadeProgram
 pub mod MadeFile
 pub mod HistorySignature
+pub mod KeptAncestors
 pub mod FileRefusals
 pub mod BuilderError
 pub mod Building

@@ -1,6 +1,6 @@
 //! Owned signed data and Authenticode signatures: reading and writing them, access to their
-//! certificates, the signer's among them, and to what is signed, and timestamping them. A law on
-//! signatures by the certificates of a CA.
+//! certificates, the signer's among them, and to what is signed, and timestamping them. Laws
+//! on signatures by the certificates of a CA.
 #![tactic(auto)]
 
 mod alone;
@@ -26,7 +26,7 @@ pub use authenticode_core::{CertificateTrustList, CtlError, Pkcs7Error};
 pub use builder::AuthenticodeSignatureBuilder;
 pub use builder_error::AuthenticodeSignatureBuilderError;
 pub use certificates::SignatureCertificatesIterator;
-pub use history_laws::histories_decide_signatures;
+pub use history_laws::{histories_decide_made_signatures, histories_decide_signatures};
 pub use made_files::{check_made, decode_signature, encode_signature};
 pub use pkcs7::Pkcs7;
 pub use signature::AuthenticodeSignature;

@@ -15,7 +15,6 @@ ghost use Rattle.sig_core.specs.ShaVariant.{hash_of};
 ghost use Rattle.sig_core.specs.declared.hash.HashAlgorithm.TheVariants.{SHA2_224};
 ghost use Rattle.wincert_core.specs.declared.kinds.CertificateType.{CertificateType};
 ghost use Rattle.x509_types.specs.CertificateElements.{CertificateElements};
-ghost use Rattle.authenticode_core.specs.SigningRules.{IsBagOf};
 ghost use Rattle.authenticode_core.specs.declared.error.AuthenticodeError.TheVariants as errors;
 ghost use Rattle.authenticode_parts.specs.Carried.{AreCarried, elements_of};
 ghost use Rattle.authenticode_parts.specs.MadeContent.{attributes_message, content_digest, data_element, opus_element, program_attributes};
@@ -24,7 +23,7 @@ ghost use Rattle.authenticode_parts.specs.SignedProgram.{IsBasicName, IsSignatur
 ghost use Rattle.authenticode_signature.specs.Making.{IsMadeOf, hash_step, making_steps, name_step, sealing_step, program_steps, writing_step};
 ghost use Rattle.authenticode_signature.specs.MadeFile.{IsMadeSignature, IsMadeWith, IsSpelledWhole, wrapped};
 ghost use Rattle.authenticode_signature.specs.MadeProgram.{program_for};
-ghost use Rattle.authenticode_signature.specs.Pkcs7.{fields_of, written};
+ghost use Rattle.authenticode_signature.specs.Pkcs7.{HasBag, fields_of, written};
 
 pub(crate) mod signer;
 
@@ -82,7 +81,7 @@ impl AuthenticodeSignature {
         // Its file is a made signature file, by the first certificate of all and others, which it
         // contains.
         ensures file { IfOk result (λ s. (first : CertificateElements)
-            (others : List CertificateElements) → IsBagOf (fields_of pkcs7.now) (first ∷ others)
+            (others : List CertificateElements) → HasBag pkcs7.now (first ∷ others)
             → IsMadeWith (S.pair scheme.now) private_key.now first others
             → (certificate_type : CertificateType) (octets : List ℕ) → IsDer (written s.0)
             → IsSpelledWhole octets (wrapped certificate_type (encoding (written s.0)))

@@ -11,12 +11,13 @@ ghost use Rattle.der_core.specs.declared.error.DerError.TheVariants as der_error
 ghost use Rattle.der_core.specs.declared.fault.DerFault.{DerFault};
 ghost use Rattle.cms_types.specs.Pkcs7.{pkcs7};
 ghost use Rattle.cms_types.specs.declared.signed_data.pkcs7.Pkcs7Certificate.{Pkcs7Certificate};
+ghost use Rattle.x509_core.specs.KeptCertificate.{kept_octets};
 ghost use Rattle.x509_types.specs.CertificateElements.{certificate_of};
 ghost use Rattle.authenticode_parts.specs.Carried.{elements_of};
 ghost use Rattle.authenticode_core.specs.CertificateBag.{IsBag};
 ghost use Rattle.authenticode_core.specs.declared.pkcs7_error.Pkcs7Error.TheVariants as errors;
 ghost use Rattle.authenticode_signature.specs.CertificatesAlone.{certificates_alone};
-ghost use Rattle.authenticode_signature.specs.Pkcs7.{IsPkcs7Of, fields_of, written};
+ghost use Rattle.authenticode_signature.specs.Pkcs7.{HasBag, IsPkcs7Of, fields_of, written};
 ghost use Rattle.authenticode_signature.specs.Refusals.{IsUnreadPkcs7, IsUnwrittenPkcs7, unread};
 
 use crate::alone::without_signers;
@@ -68,10 +69,15 @@ impl Pkcs7 {
     /// Signed data without signers, with these certificates as they are, in order. It is refused
     /// only when out of memory.
     pub fn of_certificates(alloc: Global, certificates: &[Cert]) -> Result<Pkcs7, Pkcs7Error>
-        ensures { MatchResult result
+        ensures answer { MatchResult result
             (λ p. fields_of p ≡ certificates_alone
             (map certificate_of (elements_of certificates.now)))
             (λ e. e ≡ errors.Memory) }
+        // Its bag is these certificates.
+        ensures bag { IfOk result (λ p. HasBag p (elements_of certificates.now)) }
+        // Octet by octet, and there is nothing else beside them.
+        ensures octets { IfOk result (λ p. map encoding (members_of (fields_of p).certificates)
+            ≡ map kept_octets certificates.now) }
     {
         Ok(Pkcs7 {
             signed: without_signers(alloc, certificates)?,

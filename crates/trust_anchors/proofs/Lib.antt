@@ -4,6 +4,7 @@ pub mod Agreed
 pub mod Trails
 pub mod Paths
 pub mod Turns
+pub mod UnsignedLinks
 pub mod Bounds
 pub mod PathExamples
 pub mod Certificates

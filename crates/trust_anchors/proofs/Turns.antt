@@ -1,7 +1,7 @@
 -- One turn of each loop of the search.
 use Rattle.std.proofs.Common.{Bool, ◌≡◌, ◌≢◌, ◌⊎◌, ◌↔◌, ℕ, suc, ◌+◌, ◌<◌, ◌≤◌, List, [], ◌∷◌, ◌++◌, get_or, length, take, Option}
 use Rattle.std.proofs.Common.{Some, None, IfSome, IsSome, IsTrue, false, inl, inr, refl, sym, ap, subst, ◌∙◌, arith, add-one}
-use Rattle.std.specs.Prelude.{slice_get, Contains, MatchResult, Result, Ok, Err, is_err}
+use Rattle.std.specs.Prelude.{slice_get, Contains}
 use Rattle.std.proofs.lemmas.Bool.{cases_lt, false≢true}
 use Rattle.std.proofs.lemmas.List.{take_all, take_more}
 use Rattle.std.proofs.lemmas.List.Elements.{Contains-get_or}
@@ -48,11 +48,6 @@ refused_link Link Broken e law (inr memory) other link = other memory
 -- false is the answer where there is no link
 pub answer_false : (Link : Type 0) (is : Bool) → is ≡ false → (Link → ⊥) → IsTrue is ↔ Link
 answer_false Link is e fails = (λ on. absurd (false≢true (sym e ∙ on)), λ link. absurd (fails link))
-
--- what holds of a result holds unless it is an error
-pub holds_unless_err : {T E : Type 0} (r : Result T E) (P : Type 0) (Q : E → Type 0) → is_err r ≡ false → MatchResult r (λ _. P) Q → P
-holds_unless_err (Ok x) P Q isnt holds = holds
-holds_unless_err (Err e) P Q isnt holds = absurd (false≢true (sym isnt))
 
 -- a trail of a layer has an end
 pub has_end : (s : Sought) (number : ℕ) (layer : List (List ℕ)) (trail : List ℕ) → IsLayer s number layer → Contains layer trail → IsSome (end_of s trail)

@@ -1,2 +1,3 @@
 -- What the search keeps.
 pub mod Trails
+pub mod Unsigned

@@ -7,6 +7,7 @@ mod answering;
 mod command;
 mod error;
 mod laws;
+mod link;
 mod path;
 mod program;
 mod reading;

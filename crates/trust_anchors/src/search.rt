@@ -7,8 +7,10 @@ ghost use Rattle.x509_core.specs.declared.error.CertError.TheVariants as errors;
 ghost use Rattle.trust_anchors.specs.Anchors.{Serves};
 ghost use Rattle.trust_anchors.specs.FirstPath.{IsBefore};
 ghost use Rattle.trust_anchors.specs.Inside.Trails.{Continues, IsFirstAnchor, IsFirstOf, IsFirstSoFar, IsFirstWith, IsFound, IsLayer, IsLayerUpTo, end_of, most_verified, sought};
+ghost use Rattle.trust_anchors.specs.Inside.Unsigned.{IsUnsignedLink};
 
 use crate::anchor::{Anchor, Purpose};
+use crate::link::is_unsigned_link;
 use crate::path::AnchoredPath;
 use crate::steps::Steps;
 use sig_core::Scheme;
@@ -266,9 +268,33 @@ impl<S: Scheme> Search<'_, S> {
         &self.pool[index]
     }
 
+    /// Whether the parent may have issued the child. Its signature is the last rule, and verified
+    /// only if all others hold.
+    fn is_link<L: Ledger>(
+        &self,
+        alloc: Global,
+        parent: &Cert,
+        child: &Cert,
+        number: u16,
+        steps: &mut Steps<L>,
+    ) -> Result<bool, AllocError>
+        ensures answer { IfOk result (λ is. IsTrue is
+            ↔ IsLink (S.judge self.now.scheme.now) self.now.window number
+            parent.now.elements child.now.elements) }
+        ensures counted { steps.new ≤ steps.old + 1 }
+        // Where another rule fails, no signature is verified.
+        ensures uncounted { (IsUnsignedLink self.now.window number parent.now.elements
+            child.now.elements → ⊥) → steps.new ≡ steps.old }
+    {
+        if !is_unsigned_link(parent.view(), child.view(), number, &self.window) {
+            return Ok(false);
+        }
+        self.is_signed_link(alloc, parent, child, number, steps)
+    }
+
     /// Counts one signature, and verifies whether the parent may have issued the child. No other
     /// function of the search verifies a signature.
-    fn is_link<L: Ledger>(
+    fn is_signed_link<L: Ledger>(
         &self,
         alloc: Global,
         parent: &Cert,

@@ -5,7 +5,8 @@ ghost use Rattle.std.specs.Prelude.{◌≡◌, ◌+◌, ◌<◌};
 use std::marker::Model;
 use std::sync::ledger::{Blank, Book, Ledger, Share};
 
-/// How many signatures were verified. It takes no memory, and only the search adds to it.
+/// How many signatures were verified: one for each link of which every other rule holds. It takes
+/// no memory, and only the search adds to it.
 #[derive(Drop)]
 pub struct Steps<L: Ledger> {
     book: Book<L>,

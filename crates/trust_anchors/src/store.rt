@@ -8,6 +8,7 @@ ghost use Rattle.trust_anchors.specs.declared.error.AnchorError.TheVariants as e
 
 use crate::anchor::{Anchor, Purpose};
 use crate::error::AnchorError;
+use crate::link::is_valid;
 use crate::path::AnchoredPath;
 use crate::search::Search;
 use crate::steps::Steps;
@@ -109,7 +110,9 @@ impl AnchorStore {
     }
 
     /// `find`, and the number of signatures that it verified, by any ledger: at most
-    /// 16 (n + 1) (n + m) for n certificates in the pool and m anchors.
+    /// 16 (n + 1) (n + m) for n certificates in the pool and m anchors. A signature is the last
+    /// rule of a link: a link of which another rule fails verifies none and counts for nothing. One
+    /// whose algorithm isn't known, or doesn't fit the key, is counted without asking the scheme.
     pub fn find_counted<S: Scheme, L: Ledger>(
         &self,
         alloc: Global,
@@ -138,7 +141,7 @@ impl AnchorStore {
             not_before: true,
             not_after: true,
         };
-        if cert.expect_valid(alloc, &window).is_err() {
+        if !is_valid(cert.view(), &window) {
             return Ok(None);
         }
         let search = Search {

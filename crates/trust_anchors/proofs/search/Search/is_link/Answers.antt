@@ -1,24 +1,23 @@
-use Rattle.std.proofs.Common.{◌≡◌, ◌≢◌, ◌↔◌, IsTrue, IfOk, false, refl}
-use Rattle.std.proofs.lemmas.Result.{IfOk-weaker}
-use Rattle.der_core.specs.Rules.{IsFirstBroken}
-use Rattle.key_core.specs.Verifying.{Judge}
-use Rattle.x509_core.specs.Link.{IsLink, link_rules}
-use Rattle.x509_core.specs.declared.error.CertError.{CertError}
-use Rattle.x509_core.specs.declared.error.CertError.TheVariants as errors
-use Rattle.trust_anchors.proofs.Turns.{answer_false, refused_link}
+use Rattle.std.proofs.Common.{◌≡◌, false, refl, rules, subst, sym, ◌∙◌}
+use Rattle.std.proofs.lemmas.Bool.{false≢true}
+use Rattle.x509_types.specs.CertificateElements.{CertificateElements}
+use Rattle.x509_types.specs.CertificateView.{view_elements}
+use Rattle.trust_anchors.specs.Inside.Unsigned.{IsUnsignedLink}
+use Rattle.trust_anchors.proofs.Turns.{answer_false}
+use Rattle.trust_anchors.proofs.UnsignedLinks.{unsigned_of}
 use Rattle.trust_anchors.proofs.search.Search.is_link.Goals as goal
 
-pub returns-in-Ok-clause-answer : goal.returns-in-Ok-clause-answer
-returns-in-Ok-clause-answer g c = (λ on. c.in-Ok.ensures c.args.number refl, λ link. refl)
-
-pub returns-in-Err-clause-answer : goal.returns-in-Err-clause-answer
-returns-in-Err-clause-answer g c =
-    let judge : Judge = g.S.Scheme.judge c.args.self.now.scheme.now in
-    let Link : Type 0 = IsLink judge c.args.self.now.window c.args.number c.args.parent.now.elements c.args.child.now.elements in
-    let Broken : CertError → Type 0 = IsFirstBroken (link_rules judge c.args.self.now.window c.args.number c.args.parent.now c.args.child.now) in
-    let law : Link → Broken c.in-Err.refusal → ⊥ =
-    c.chains_break_no_rule.ensures.link judge c.args.self.now.window c.args.number c.args.parent.now c.args.child.now c.in-Err.refusal in
-    let answer : IfOk c.false_unless_memory.result (λ is. (is ≡ false) × (c.in-Err.refusal ≢ errors.Memory)) = c.false_unless_memory.ensures in
-    IfOk-weaker c.false_unless_memory.result (λ is. (is ≡ false) × (c.in-Err.refusal ≢ errors.Memory)) (λ is. IsTrue is ↔ Link)
-    (λ is other. answer_false Link is other.0 (refused_link Link Broken c.in-Err.refusal law (c.in-Err.ensures c.args.number refl) other.1))
-    answer
+pub returns-then-not-is_unsigned_link-clause-answer : goal.returns-then-not-is_unsigned_link-clause-answer
+returns-then-not-is_unsigned_link-clause-answer g c =
+    let judge = g.S.Scheme.judge c.args.self.now.scheme.now in
+    let w = c.args.self.now.window in
+    let parent : CertificateElements = view_elements c.view.result in
+    let child : CertificateElements = view_elements c.view-2.result in
+    let off : c.is_unsigned_link.result ≡ false = search rules in
+    answer_false _ _ refl (λ link.
+    let own = unsigned_of judge w c.args.number c.args.parent.now.elements c.args.child.now.elements link in
+    let above : IsUnsignedLink w c.args.number parent c.args.child.now.elements =
+    subst (λ (f : CertificateElements). IsUnsignedLink w c.args.number f c.args.child.now.elements) (sym c.view.ensures.elements) own in
+    let both : IsUnsignedLink w c.args.number parent child =
+    subst (λ (f : CertificateElements). IsUnsignedLink w c.args.number parent f) (sym c.view-2.ensures.elements) above in
+    false≢true (sym off ∙ c.is_unsigned_link.ensures.1 both))
