@@ -89,7 +89,7 @@ module _ (asks words : List (List ℕ)) (first first_now shelf shelf_now : Shelf
 
 exposed : (files : Option Files) (name octets : List ℕ) → file_of files name ≡ Some octets → IsSome files
 exposed None name octets is = absurd cc
-exposed (Some files) name octets is = tt
+exposed (Some files) name octets is = refl
 
 pub one_file : (files others : Option Files) (name other octets more : List ℕ) → IsWholeFile files name octets → IsWholeFile others other more
     → IsOneFile files others name other → octets ≡ more

@@ -1,6 +1,6 @@
 //! A caller that cites the laws over runs.
 
-ghost use Rattle.std.specs.Prelude.{◌×◌, ℕ, List, Contains, IsTrue, map, string_bytes};
+ghost use Rattle.std.specs.Prelude.{Contains, IsTrue, map, string_bytes};
 ghost use Rattle.key_core.specs.Verifying.{Judge};
 ghost use Rattle.picky_check.specs.Vouched.{IsVouched};
 ghost use Rattle.vouching.specs.Listing.{IsListed, listed_questions};
