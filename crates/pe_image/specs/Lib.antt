@@ -7,7 +7,7 @@ pub mod ImageHash
 pub mod RefusalName
 pub mod Refusals
 pub mod Words
-pub mod HeldCommand
+pub mod OwnedCommand
 pub mod ProgramPolicy
 pub mod ListAnswer
 pub mod Report

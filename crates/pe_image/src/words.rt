@@ -1,7 +1,7 @@
 //! The words of the command line.
 
 ghost use Rattle.std.specs.Prelude.{◌≡◌, Some, map, MatchOption, option_map, string_bytes};
-ghost use Rattle.pe_image.specs.HeldCommand.{command_held};
+ghost use Rattle.pe_image.specs.OwnedCommand.{command_held};
 ghost use Rattle.pe_image.specs.Words.{AsksFor, AsksForNothing, Command as AskedCommand};
 
 use names_core::UtcDate;

@@ -4,7 +4,7 @@
 -- Inside, which no public contract cites: `HeldCommand`.
 pub mod Words
 pub mod Policies
-pub mod HeldCommand
+pub mod OwnedCommand
 pub mod Report
 pub mod SignatureAnswer
 pub mod ChainAnswer

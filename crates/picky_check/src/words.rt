@@ -1,7 +1,7 @@
 //! The commands of the command line.
 
 ghost use Rattle.std.specs.Prelude.{◌≡◌, Some, None, map, IfOk, IfSome, IsErr, IsSome, MatchOption, option_map, string_bytes, ◌∷◌, codes, Ok};
-ghost use Rattle.picky_check.specs.HeldCommand.{command_held};
+ghost use Rattle.picky_check.specs.OwnedCommand.{command_held};
 ghost use Rattle.picky_check.specs.Words.{AsksFor, AsksForNothing, Command as AskedCommand, asked_hash};
 
 use crate::chain_files::ChainFiles;

@@ -2,7 +2,7 @@
 use Rattle.std.specs.Prelude.{◌≡◌, ℕ, List, [], ◌∷◌, ◌++◌, false, true, length, map, codes}
 use Rattle.key_core.specs.Verifying.{Judge}
 use Rattle.sig_core.specs.VerdictTable.{newline}
-use Rattle.x509_core.specs.KeptCertificate.{KeptCertificate, kept_octets}
+use Rattle.x509_core.specs.OwnedCertificate.{KeptCertificate, kept_octets}
 use Rattle.program_frame.specs.Commands.{Program}
 use Rattle.program_frame.specs.Reports.{Reporting}
 use Rattle.program_frame.specs.Tables.{TableProgram, by_table}

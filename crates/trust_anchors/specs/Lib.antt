@@ -11,7 +11,7 @@ pub mod ErrorText
 pub mod PathText
 pub mod Inside
 pub mod Words
-pub mod HeldCommand
+pub mod OwnedCommand
 pub mod Answer
 pub mod Reading
 pub mod Reported

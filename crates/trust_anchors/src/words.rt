@@ -1,7 +1,7 @@
 //! The words of the command line.
 
 ghost use Rattle.std.specs.Prelude.{◌≡◌, ℕ, Some, map, MatchOption, option_map, string_bytes};
-ghost use Rattle.trust_anchors.specs.HeldCommand.{command_held};
+ghost use Rattle.trust_anchors.specs.OwnedCommand.{command_held};
 ghost use Rattle.trust_anchors.specs.Words.{AsksFor, AsksForNothing, IsNumberWord, Command as AskedCommand, purpose_word};
 ghost use Rattle.trust_anchors.specs.declared.anchor.Purpose.{Purpose as AskedPurpose};
 

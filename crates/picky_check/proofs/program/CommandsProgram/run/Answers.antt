@@ -1,7 +1,7 @@
 use Rattle.std.proofs.Common.{◌∙◌, arith}
 use Rattle.program_frame.proofs.Parsing.{IsParsed-result}
 use Rattle.picky_check.specs.Answer.{commands}
-use Rattle.picky_check.specs.HeldCommand.{command_held}
+use Rattle.picky_check.specs.OwnedCommand.{command_held}
 use Rattle.picky_check.proofs.Vouching.{vouched_for}
 use Rattle.picky_check.proofs.program.CommandsProgram.run.Goals as goal
 

@@ -3,7 +3,7 @@ use Rattle.std.specs.Prelude.{map, string_bytes}
 use Rattle.picky_check.specs.declared.words.Command.{Command as HeldCommand}
 use Rattle.picky_check.specs.declared.words.Command.TheVariants as held
 use Rattle.picky_check.specs.Words.{Command, Basic, Check, Chain}
-use Rattle.program_frame.specs.Held.{options_held}
+use Rattle.program_frame.specs.Owned.{options_held}
 
 -- the command
 abbrev pub command_held : HeldCommand → Command

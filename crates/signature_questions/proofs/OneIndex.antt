@@ -6,7 +6,7 @@ use Rattle.der_core.specs.Optional.{members_of}
 use Rattle.x509_types.specs.CertificateElements.{CertificateElements}
 use Rattle.authenticode_core.specs.Excuses.{AreOthersThan, places_from}
 use Rattle.authenticode_core.specs.IssuerWalk.{IsIssuerPath}
-use Rattle.authenticode_core.specs.Places.{StandsAt}
+use Rattle.authenticode_core.specs.Indices.{StandsAt}
 use Rattle.authenticode_core.specs.SigningRules.{IsBagOf}
 use Rattle.authenticode_core.proofs.BagSteps.{one_bag}
 use Rattle.authenticode_core.proofs.OneSigning.{same_bag, signer_once}

@@ -11,8 +11,8 @@ use Rattle.x509_types.specs.Certificate.{IsCertificate}
 use Rattle.x509_types.specs.CertificateElements.{certificate_of}
 use Rattle.x509_types.specs.declared.certificate.Certificate.{Certificate}
 use Rattle.x509_core.specs.CertRefusals.{unread}
-use Rattle.x509_core.specs.KeptCertificate.{KeptCertificate, kept_octets}
-use Rattle.x509_core.specs.KeptCertificates.{AreKeptCertificates, IsFirstUnread}
+use Rattle.x509_core.specs.OwnedCertificate.{KeptCertificate, kept_octets}
+use Rattle.x509_core.specs.OwnedCertificates.{AreKeptCertificates, IsFirstUnread}
 use Rattle.x509_core.specs.Facts.Certs.{kept_once}
 use Rattle.x509_core.specs.declared.error.CertError.{CertError}
 use Rattle.x509_core.specs.declared.error.CertError.TheVariants as errors

@@ -7,7 +7,7 @@ use Rattle.der_core.specs.Encoding.{IsDer}
 use Rattle.der_core.specs.Structure.{Fits}
 use Rattle.x509_types.specs.Certificate.{IsCertificate}
 use Rattle.x509_types.specs.declared.certificate.Certificate.{Certificate}
-use Rattle.x509_core.specs.KeptCertificate.{HasFields}
+use Rattle.x509_core.specs.OwnedCertificate.{HasFields}
 use Rattle.x509_core.specs.Facts.CertificateParts.{spelled_by}
 
 fields_of : (element : DerElement) (c : Certificate) → IsDer element → IsCertificate element c → HasFields element c

@@ -1,6 +1,6 @@
 -- The fields of a borrowed TBSCertificate.
 use Rattle.std.specs.Option.{option_copied}
-use Rattle.der_core.specs.Lent.{at_option}
+use Rattle.der_core.specs.BorrowedOption.{at_option}
 use Rattle.x509_types.specs.TbsElements.{TbsElements}
 use Rattle.x509_types.specs.declared.certificate.tbs_fields.TbsFields.{TbsFields}
 

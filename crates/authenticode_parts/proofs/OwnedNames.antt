@@ -10,7 +10,7 @@ use Rattle.asn1_types.specs.Values.{integer_contents}
 use Rattle.asn1_types.specs.declared.integer.IntegerAsn1.{IntegerAsn1}
 use Rattle.name_types.specs.Name.{name}
 use Rattle.name_types.specs.declared.attribute.AttributeTypeAndValue.{AttributeTypeAndValue}
-use Rattle.x509_core.specs.KeptCertificate.{KeptCertificate}
+use Rattle.x509_core.specs.OwnedCertificate.{KeptCertificate}
 use Rattle.authenticode_parts.specs.SignedProgram.{issuer_and_serial_of}
 use Rattle.cms_types.specs.SignerIdentifier.{issuer_and_serial_number}
 

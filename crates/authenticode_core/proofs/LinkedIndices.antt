@@ -6,7 +6,7 @@ use Rattle.std.proofs.lemmas.List.{append-nil}
 use Rattle.der_core.specs.Rules.{IsFirstBroken}
 use Rattle.key_core.specs.Verifying.{Judge}
 use Rattle.x509_core.specs.Chain.{last_of}
-use Rattle.x509_core.specs.KeptCertificate.{KeptCertificate}
+use Rattle.x509_core.specs.OwnedCertificate.{KeptCertificate}
 use Rattle.x509_core.specs.Link.{IsLink, IsCountFor, link_rules}
 use Rattle.x509_core.specs.Rules.{RefusesCertBy}
 use Rattle.x509_core.specs.declared.error.CertError.{CertError}
@@ -20,7 +20,7 @@ use Rattle.authenticode_core.specs.Inside.Linking.{IsBrokenNext, IsLinkedSoFar, 
 use Rattle.authenticode_core.specs.OthersCursor.{AreLeft, IsFirstOf}
 use Rattle.authenticode_core.specs.IssuerWalk.{IsIssuerPath}
 use Rattle.authenticode_core.specs.LinkedPath.{StandAt, AreLinkedAt, IsUnlinkedAt, IsVouchedPath}
-use Rattle.authenticode_core.specs.Places.{StandsAt}
+use Rattle.authenticode_core.specs.Indices.{StandsAt}
 use Rattle.authenticode_core.specs.declared.path.Linking.{Linking}
 use Rattle.authenticode_core.specs.declared.bag.others.Others.{Others}
 

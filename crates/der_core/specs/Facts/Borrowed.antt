@@ -6,7 +6,7 @@ use mathlib.Core.HLevel.{Σ_prop_path}
 use Rattle.der_core.specs.DerElement.{DerElement, DerElements, Nil, Cons, Constructed, row, listed}
 use Rattle.der_core.specs.Facts.Rows.{listed-row}
 use Rattle.der_core.specs.Encoding.{encoding, encodings, IsDer, AreWellFormed, AreShort, most_levels}
-use Rattle.der_core.specs.Placed.{AreDer, IsElem, HasElem, AreElems, HasElems}
+use Rattle.der_core.specs.Borrowed.{AreDer, IsElem, HasElem, AreElems, HasElems}
 use Rattle.der_core.specs.Facts.Fronts.{fronts, same_kids}
 use Rattle.der_core.specs.Facts.InBounds.{numbers-set, octets-set, IsDerWithin-prop}
 

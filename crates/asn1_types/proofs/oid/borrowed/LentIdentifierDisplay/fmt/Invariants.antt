@@ -2,7 +2,7 @@ use Rattle.std.proofs.Common.{List, ℕ, length}
 use Rattle.std.specs.Fmt.{HasWritten, IsPlainFormatter}
 use Rattle.asn1_types.specs.ObjectIdentifier.{dotted}
 use Rattle.asn1_types.proofs.Dotted.{IsPrinting}
-use Rattle.asn1_types.proofs.oid.lent.LentIdentifierDisplay.fmt.Given as goal
+use Rattle.asn1_types.proofs.oid.borrowed.LentIdentifierDisplay.fmt.Given as goal
 
 -- what was written and the arcs that are left make the text
 abbrev pub invariant-loop-arc : goal.invariant-loop-arc

@@ -8,8 +8,8 @@ use Rattle.program_frame.specs.declared.memory.MemSink.{MemSink}
 use Rattle.door_frame.specs.Call.{ForShelf, IsCall, empty_sink, unread_files}
 use Rattle.door_frame.specs.Files.{lent_files}
 use Rattle.door_frame.specs.Handing.{handed_line}
-use Rattle.door_frame.specs.Lent.{lent_state}
-use Rattle.door_frame.specs.declared.lent.LentShelf.{LentShelf}
+use Rattle.door_frame.specs.Borrowed.{lent_state}
+use Rattle.door_frame.specs.declared.borrowed.LentShelf.{LentShelf}
 use Rattle.door_frame.proofs.Calls.{IsCall-run, within_room}
 
 unread : (shelf : LentShelf) (files : Files) → (lent_state shelf).files ≡ Some files → (lent_state shelf).rest ≡ Some [] → (lent_state shelf).given ≡ 0

@@ -1,9 +1,9 @@
 -- A borrowed element can be owned, and an owned one can be absent.
 use Rattle.std.specs.Prelude.{◌≡◌, Option, Some, None, refl, option_to_list}
 use Rattle.std.proofs.Common.{ap}
-use Rattle.der_core.specs.Kept.{KeptElement}
-use Rattle.der_core.specs.Lent.{at_option, kept_option}
-use Rattle.der_core.specs.Facts.Kept.{same_kept}
+use Rattle.der_core.specs.Owned.{KeptElement}
+use Rattle.der_core.specs.BorrowedOption.{at_option, kept_option}
+use Rattle.der_core.specs.Facts.Owned.{same_kept}
 use Rattle.der_core.specs.declared.elem.Elem.{Elem}
 
 pub keep_option : (elem : Option Elem) → (kept : Option KeptElement) × (at_option elem ≡ kept_option kept)

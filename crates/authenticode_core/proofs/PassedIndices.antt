@@ -8,14 +8,14 @@ use Rattle.x509_types.specs.CertificateView.{view_elements}
 use Rattle.authenticode_core.specs.Inside.Naming.{AsksNext, FindsNext}
 use Rattle.authenticode_core.specs.Inside.Wanted.{IsWanted}
 use Rattle.authenticode_core.specs.IssuerWalk.{IsWalkFrom}
-use Rattle.authenticode_core.specs.Places.{StandsAt, HasNoPlace, HasNoPlaceBetween, IsLeastPlace}
+use Rattle.authenticode_core.specs.Indices.{StandsAt, HasNoPlace, HasNoPlaceBetween, IsLeastPlace}
 use Rattle.authenticode_core.specs.SigningRules.{AsksForPurposes}
 use Rattle.authenticode_core.specs.WalkCursor.{LooksFrom, StepsTo}
 use Rattle.authenticode_core.specs.declared.bag.issuer_walk.IssuerWalk.{IssuerWalk}
 use Rattle.authenticode_core.specs.declared.bag.BagCertificate.{BagCertificate}
 use Rattle.authenticode_core.specs.declared.bag.wanted.Wanted.{Wanted}
-use Rattle.authenticode_core.proofs.PlaceSteps.{none_behind, none_yet}
-use Rattle.authenticode_core.proofs.WalkedPlaces.{Walked, walked_none, walked_step, walked_all}
+use Rattle.authenticode_core.proofs.IndexSteps.{none_behind, none_yet}
+use Rattle.authenticode_core.proofs.WalkedIndices.{Walked, walked_none, walked_step, walked_all}
 
 -- The certificate at the least index before this one for which the rule holds, or none.
 abbrev pub IsFoundBefore : List CertificateElements → (CertificateElements → Type 0) → ℕ → Option BagCertificate → Type 0

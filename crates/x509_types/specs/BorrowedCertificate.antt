@@ -1,7 +1,7 @@
 -- The fields of a borrowed Certificate.
 use Rattle.x509_types.specs.CertificateElements.{CertificateElements}
 use Rattle.x509_types.specs.CertificateFields.{unused_bits}
-use Rattle.x509_types.specs.LentTbs.{elements_at}
+use Rattle.x509_types.specs.BorrowedTbs.{elements_at}
 use Rattle.x509_types.specs.declared.certificate.parts.CertParts.{CertParts}
 
 -- the borrowed elements: the fields of what is signed, the algorithm, and the signature's count of

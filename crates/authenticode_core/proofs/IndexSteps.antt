@@ -9,7 +9,7 @@ use Rattle.der_core.specs.DerElement.{DerElement}
 use Rattle.authenticode_core.specs.BagCursor.{StandsIn}
 use Rattle.authenticode_core.specs.CertificateBag.{IsBag}
 use Rattle.authenticode_core.specs.LeftMembers.{left_members, BeginsBag}
-use Rattle.authenticode_core.specs.Places.{StandsAt, HasNoPlaceBetween, HasNoPlace}
+use Rattle.authenticode_core.specs.Indices.{StandsAt, HasNoPlaceBetween, HasNoPlace}
 use Rattle.authenticode_core.specs.declared.bag.Bag.{Bag}
 use Rattle.authenticode_core.proofs.BagSteps.{one_bag}
 

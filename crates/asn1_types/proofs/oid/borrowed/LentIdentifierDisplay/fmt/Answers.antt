@@ -4,7 +4,7 @@ use Rattle.std.proofs.Output.{has_written_append, has_written_of_eq}
 use Rattle.asn1_types.specs.ObjectIdentifier.{dot}
 use Rattle.asn1_types.proofs.Subidentifiers.{after_shorter}
 use Rattle.asn1_types.proofs.Dotted.{printing_begins, printing_goes_on, printing_ends}
-use Rattle.asn1_types.proofs.oid.lent.LentIdentifierDisplay.fmt.Goals as goal
+use Rattle.asn1_types.proofs.oid.borrowed.LentIdentifierDisplay.fmt.Goals as goal
 
 pub loop-arc-init : goal.loop-arc-init
 loop-arc-init g c =

@@ -1,5 +1,5 @@
 -- The fields of signers and of signed data, borrowed.
-use Rattle.der_core.specs.Lent.{at_option}
+use Rattle.der_core.specs.BorrowedOption.{at_option}
 use Rattle.cms_types.specs.SignerElements.{SignerElements}
 use Rattle.cms_types.specs.SignedDataElements.{SignedDataElements}
 use Rattle.cms_types.specs.declared.signer_info.fields.SignerFields.{SignerFields}

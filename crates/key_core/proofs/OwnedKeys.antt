@@ -2,7 +2,7 @@
 use Rattle.std.proofs.Common.{◌≡◌, ℕ, List, Option, Some, None, refl, sym, subst, ap, ◌∙◌}
 use Rattle.std.specs.Option.{option_map}
 use Rattle.der_core.specs.DerElement.{Primitive}
-use Rattle.der_core.specs.Lent.{kept_option}
+use Rattle.der_core.specs.BorrowedOption.{kept_option}
 use Rattle.asn1_types.specs.Elements.{object_identifier}
 use Rattle.asn1_types.specs.Facts.Elements.{identifiers}
 use Rattle.asn1_types.specs.Values.{identifier_contents}

@@ -10,7 +10,7 @@ use Rattle.x509_types.specs.Purposes.{HasPurposes}
 use Rattle.authenticode_core.specs.Inside.Naming.{AsksNext}
 use Rattle.authenticode_core.specs.IssuerWalk.{IsIssuerWalk, IsWalkFrom}
 use Rattle.authenticode_core.specs.Names.{HasSubject}
-use Rattle.authenticode_core.specs.Places.{IsLeastPlace, StandsAt}
+use Rattle.authenticode_core.specs.Indices.{IsLeastPlace, StandsAt}
 use Rattle.authenticode_core.specs.SigningRules.{AsksForPurposes}
 use Rattle.authenticode_core.specs.WalkCursor.{LooksFrom, GoesPast}
 use Rattle.authenticode_core.specs.declared.bag.issuer_walk.IssuerWalk.{IssuerWalk}

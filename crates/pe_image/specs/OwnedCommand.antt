@@ -2,7 +2,7 @@
 use Rattle.std.specs.Prelude.{string_bytes}
 use Rattle.pe_image.specs.declared.words.Command.{Command as HeldCommand}
 use Rattle.pe_image.specs.Words.{Command}
-use Rattle.program_frame.specs.Held.{options_held}
+use Rattle.program_frame.specs.Owned.{options_held}
 
 -- the command
 abbrev pub command_held : HeldCommand → Command

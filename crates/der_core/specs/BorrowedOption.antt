@@ -1,7 +1,7 @@
 -- Elements that may be absent, borrowed and owned.
 use Rattle.std.specs.Prelude.{Option, Some, None}
 use Rattle.der_core.specs.DerElement.{DerElement}
-use Rattle.der_core.specs.Kept.{KeptElement}
+use Rattle.der_core.specs.Owned.{KeptElement}
 use Rattle.der_core.specs.declared.elem.Elem.{Elem}
 
 -- the borrowed element

@@ -3,8 +3,8 @@ use Rattle.std.proofs.Common.{◌≡◌, ℕ, List, [], ◌∷◌, ◌++◌, Res
 use Rattle.der_core.specs.DerElement.{DerElement}
 use Rattle.der_core.specs.Encoding.{IsDer}
 use Rattle.der_core.specs.Facts.Grammars.{AreDer-append}
-use Rattle.der_core.specs.Kept.{KeptElement}
-use Rattle.der_core.specs.Placed.{AreDer}
+use Rattle.der_core.specs.Owned.{KeptElement}
+use Rattle.der_core.specs.Borrowed.{AreDer}
 use Rattle.der_core.specs.Refusals.{RefusesInner, RefusesShape}
 use Rattle.der_core.specs.declared.error.DerError.{DerError}
 use Rattle.der_core.specs.declared.error.DerError.TheVariants as errors

@@ -3,7 +3,7 @@ use Rattle.std.specs.Prelude.{ℕ, List, Option, Some}
 use Rattle.std.proofs.Common.{◌≡◌, sym, ap, subst, ◌∙◌}
 use Rattle.der_core.specs.DerElement.{DerElement}
 use Rattle.der_core.specs.Encoding.{encoding}
-use Rattle.der_core.specs.Placed.{AreDer}
+use Rattle.der_core.specs.Borrowed.{AreDer}
 use Rattle.key_types.specs.PublicKeyInfo.{subject_public_key, inner_key}
 use Rattle.key_types.specs.RsaPublicKey.{rsa_public_key}
 use Rattle.key_types.specs.declared.key_info.SubjectPublicKeyInfo.{SubjectPublicKeyInfo}

@@ -9,7 +9,7 @@ use Rattle.authenticode_core.specs.declared.accepted.Accepted.{Accepted}
 use Rattle.authenticode_core.specs.declared.ctl.CertificateTrustList.{CertificateTrustList}
 use Rattle.authenticode_core.specs.declared.error.CheckError.{CheckError}
 use Rattle.authenticode_core.specs.declared.policy.Policy.{Policy}
-use Rattle.authenticode_core.proofs.LentLists.{answer_under, under}
+use Rattle.authenticode_core.proofs.BorrowedLists.{answer_under, under}
 use Rattle.pe_image.specs.PeAnswer.{IsPeAnswer, IsTableAnswer, policy_for}
 use Rattle.pe_image.specs.declared.error.PeCheckError.{PeCheckError}
 use Rattle.pe_image.specs.declared.error.PeCheckError.TheVariants.{Pe, Check, Memory}

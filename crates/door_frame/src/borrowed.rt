@@ -20,7 +20,7 @@ pub struct LentShelf<'a> {
 
 impl<'a> LentShelf<'a> {
     ghost use Rattle.door_frame.specs.Files.{lent_files};
-    ghost use Rattle.door_frame.specs.Lent.{lent_state};
+    ghost use Rattle.door_frame.specs.Borrowed.{lent_state};
 
     /// A shelf with these files, of which none is picked. Of two with the same name the first
     /// counts.
@@ -40,7 +40,7 @@ impl<'a> LentShelf<'a> {
 }
 
 impl<'a> Shelf for LentShelf<'a> {
-    ghost use Rattle.door_frame.specs.Lent.{lent_state};
+    ghost use Rattle.door_frame.specs.Borrowed.{lent_state};
 
     ghost state = { lent_state };
 

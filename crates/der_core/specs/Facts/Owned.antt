@@ -6,7 +6,7 @@ use mathlib.Core.HLevel.{Σ_prop_path}
 use base.Stored.{Coded}
 use Rattle.der_core.specs.DerElement.{DerElement}
 use Rattle.der_core.specs.Encoding.{encoding, IsDer, most_levels}
-use Rattle.der_core.specs.Kept.{KeptElement, IsKept, Kept}
+use Rattle.der_core.specs.Owned.{KeptElement, IsKept, Kept}
 use Rattle.der_core.specs.Facts.Codes.{stored, stored_inj}
 use Rattle.der_core.specs.Facts.Fronts.{fronts}
 use Rattle.der_core.specs.Facts.InBounds.{octets-set, IsDerWithin-prop}
