@@ -9,7 +9,7 @@ use Rattle.door_frame.specs.Call.{ForShelf, IsCall, empty_sink, unread_files}
 use Rattle.door_frame.specs.Files.{lent_files}
 use Rattle.door_frame.specs.Handing.{handed_line}
 use Rattle.door_frame.specs.Borrowed.{lent_state}
-use Rattle.door_frame.specs.declared.borrowed.LentShelf.{LentShelf}
+use Rattle.door_frame.specs.declared.borrowed_shelf.LentShelf.{LentShelf}
 use Rattle.door_frame.proofs.Calls.{IsCall-run, within_room}
 
 unread : (shelf : LentShelf) (files : Files) → (lent_state shelf).files ≡ Some files → (lent_state shelf).rest ≡ Some [] → (lent_state shelf).given ≡ 0

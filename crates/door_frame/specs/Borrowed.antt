@@ -2,7 +2,7 @@
 use Rattle.program_frame.specs.Shelf.{ShelfState}
 use Rattle.door_frame.specs.Call.{lent_shelf}
 use Rattle.door_frame.specs.Files.{lent_files}
-use Rattle.door_frame.specs.declared.borrowed.LentShelf.{LentShelf}
+use Rattle.door_frame.specs.declared.borrowed_shelf.LentShelf.{LentShelf}
 
 -- the observable state of a shelf of borrowed files
 abbrev pub lent_state : LentShelf → ShelfState

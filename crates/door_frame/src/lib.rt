@@ -3,7 +3,7 @@
 //! table that the caller keeps between calls.
 #![tactic(auto)]
 
-mod borrowed;
+mod borrowed_shelf;
 mod calling;
 mod files;
 mod handing;
@@ -11,7 +11,7 @@ mod pool;
 mod table_handle;
 mod words;
 
-pub use borrowed::LentShelf;
+pub use borrowed_shelf::LentShelf;
 pub use calling::call;
 pub use files::{LentFile, borrowed};
 pub use handing::{HandedOut, hand_out};
