@@ -169,17 +169,17 @@ def with_bit(chance, octets):
 
 
 def bit_cases(seed, count):
-    """Jobs and their files, of one of which one bit is changed."""
-    chance, kinds = random.Random(seed), damaged_runs.jobs_of(tuple(KINDS))
+    """Commands and their files, of one of which one bit is changed."""
+    chance, kinds = random.Random(seed), damaged_runs.commands_of(tuple(KINDS))
     for _ in range(count):
-        job = chance.choice(chance.choice(kinds))
-        name = chance.choice([name for name in sorted(job.files) if job.files[name]])
-        yield job, {**job.files, name: with_bit(chance, job.files[name])}
+        given = chance.choice(chance.choice(kinds))
+        name = chance.choice([name for name in sorted(given.files) if given.files[name]])
+        yield given, {**given.files, name: with_bit(chance, given.files[name])}
 
 
 def changed(cases, program, folder):
     """Rows of files that are changed, and what the program answers."""
-    drawn = [damaged_runs.vector(job, files) for job, files in cases]
+    drawn = [damaged_runs.vector(given, files) for given, files in cases]
     lines, status, _ = damaged_runs.run(program, drawn, folder)
     if status:
         raise command.Refusal(f"{program} ends with {status}")

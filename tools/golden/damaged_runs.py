@@ -66,7 +66,7 @@ REGISTERS = 100
 
 
 @dataclass(frozen=True)
-class Job:
+class Command:
     """A program, its words, its files, those that are changed, and what the reference implementation says of files."""
 
     program: str
@@ -146,7 +146,7 @@ def said_of_register(moment):
     return said
 
 
-# The jobs.
+# The commands.
 
 def day(digits):
     return f"{digits[:4]}-{digits[4:6]}-{digits[6:8]}"
@@ -156,10 +156,10 @@ def of_signatures():
     """Signatures by openssl and osslsigncode."""
     for _, one in real_policies.written():
         files, asked = {"s": one.octets, "t": one.table.encode()}, one.file_hash.hex()
-        yield Job("picky", ("basic", "s", "t", asked), files, ("s",), said_of_basic(one.file_hash))
+        yield Command("picky", ("basic", "s", "t", asked), files, ("s",), said_of_basic(one.file_hash))
         for digits in real_policies.dates(one):
             policy = real_policies.ALL._replace(file_hash=one.file_hash, lower=digits)
-            yield Job("picky", ("check", "s", "t", asked, day(digits)), files, ("s",), said_of_check(policy))
+            yield Command("picky", ("check", "s", "t", asked, day(digits)), files, ("s",), said_of_check(policy))
 
 
 def of_lists():
@@ -168,7 +168,7 @@ def of_lists():
         policy = real_policies.ALL._replace(file_hash=made_file.file_hash, lower="20250101000000", against_list=True, now=1)
         files = {"s": made_file.octets, "t": made_file.table.encode(), "l": list_rows.list_with(*names)}
         words = "check", "s", "t", made_file.file_hash.hex(), "2025-01-01", "--list", "l", "1"
-        yield Job("picky", words, files, ("s", "l", "l"), said_of_check(policy))
+        yield Command("picky", words, files, ("s", "l", "l"), said_of_check(policy))
 
 
 def of_chains():
@@ -178,7 +178,7 @@ def of_chains():
         if len(case.date) == 10:
             names = [f"c{place}" for place in range(len(case.labels))]
             files = {"t": table, **{name: known[label] for name, label in zip(names, case.labels)}}
-            yield Job("picky", ("chain", "t", case.date, *names), files, tuple(names), said_of_chain(names, case.digits()))
+            yield Command("picky", ("chain", "t", case.date, *names), files, tuple(names), said_of_chain(names, case.digits()))
 
 
 def of_images():
@@ -187,7 +187,7 @@ def of_images():
     for octets, table in (*found, made()):
         for date in ("2027-01-01", "2031-01-01"):
             digits = date.replace("-", "") + "000000"
-            yield Job("picky_pe", ("p", "t", date), {"p": octets, "t": table.encode()}, ("p",), said_of_image(digits))
+            yield Command("picky_pe", ("p", "t", date), {"p": octets, "t": table.encode()}, ("p",), said_of_image(digits))
 
 
 def of_anchors():
@@ -197,18 +197,18 @@ def of_anchors():
         files, words, _ = run_of([ROOT], LEAF, pool, table=table)
         names = words[4:]
         said = said_of_anchor(1, names, words[1], words[2].replace("-", "") + "000000", table)
-        yield Job("picky_anchor", tuple(words), files, tuple(names), said)
+        yield Command("picky_anchor", tuple(words), files, tuple(names), said)
 
 
 def of_questions():
     """Questions about the same signatures and chains."""
     for _, one in real_policies.written():
-        yield Job("picky_ask", ("s",), {"s": one.octets}, ("s",), said_of_questions(["s"], question_judge.of_file))
+        yield Command("picky_ask", ("s",), {"s": one.octets}, ("s",), said_of_questions(["s"], question_judge.of_file))
     known = chains.stored()
     for case in chains.CASES:
         files = {f"c{place}": known[label] for place, label in enumerate(case.labels)}
         said = said_of_questions(list(files), lambda *octets: question_judge.of_chain(octets))
-        yield Job("picky_ask", ("--chain", *files), files, tuple(files), said)
+        yield Command("picky_ask", ("--chain", *files), files, tuple(files), said)
 
 
 def of_registers():
@@ -216,20 +216,20 @@ def of_registers():
     for text, word, *_ in (*ca_run_rows.known(), *ca_run_rows.drawn(REGISTERS)):
         if text:
             said = said_of_register(ca_run_rows.moment_of(word))
-            yield Job("picky_ca", ("r", word), {"r": text.encode()}, ("r",), said)
+            yield Command("picky_ca", ("r", word), {"r": text.encode()}, ("r",), said)
 
 
 @cache
-def jobs():
-    """All jobs by their kind, each of which is drawn as often: those of signatures that are accepted, the others, and so on."""
+def commands():
+    """All commands by their kind, each of which is drawn as often: those of signatures that are accepted, the others, and so on."""
     signatures = list(of_signatures())
-    accepted = [job for job in signatures if job.said(job.files).startswith("0 ")]
+    accepted = [given for given in signatures if given.said(given.files).startswith("0 ")]
     return [accepted, signatures, *(list(kind()) for kind in (of_images, of_chains, of_lists, of_anchors, of_questions, of_registers))]
 
 
-def jobs_of(programs):
+def commands_of(programs):
     """Those of these programs, by their kind."""
-    return [kind for kind in jobs() if kind[0].program in programs]
+    return [kind for kind in commands() if kind[0].program in programs]
 
 
 # Changes.
@@ -370,23 +370,23 @@ CHANGES_OF_TEXTS = with_octets, with_range, with_lines, with_lines, with_number,
 
 
 def case(chance, kinds):
-    """A job and its files, one of them changed; None where that one is too long."""
-    job = chance.choice(chance.choice(kinds))
-    name = chance.choice(job.changed)
-    changes = CHANGES_OF_TEXTS if job.program == "picky_ca" else CHANGES
-    octets = chance.choice(changes)(chance, job.files[name])
+    """A command and its files, one of them changed; None where that one is too long."""
+    given = chance.choice(chance.choice(kinds))
+    name = chance.choice(given.changed)
+    changes = CHANGES_OF_TEXTS if given.program == "picky_ca" else CHANGES
+    octets = chance.choice(changes)(chance, given.files[name])
     if chance.random() < 0.1 and octets:
         octets = with_octets(chance, octets)
-    return None if len(octets) > LONGEST else (job, {**job.files, name: octets})
+    return None if len(octets) > LONGEST else (given, {**given.files, name: octets})
 
 
-def vector(job, files):
-    room = ROOM + LONGER * sum(map(len, files.values())) if job.program == "picky_ask" else ROOM
-    return row(job.program, room, None, files, job.words, (0, ""))[0]
+def vector(given, files):
+    room = ROOM + LONGER * sum(map(len, files.values())) if given.program == "picky_ask" else ROOM
+    return row(given.program, room, None, files, given.words, (0, ""))[0]
 
 
 def cases(seed, count, programs=PROGRAMS):
-    chance, kinds, found = random.Random(seed), jobs_of(programs), 0
+    chance, kinds, found = random.Random(seed), commands_of(programs), 0
     while found < count:
         made_case = case(chance, kinds)
         if made_case:
@@ -424,17 +424,17 @@ class Figures:
 
     def take(self, batch, lines):
         """Looks at the lines of a batch, each by itself."""
-        for (job, files), line in zip(batch, lines):
+        for (given, files), line in zip(batch, lines):
             self.runs += 1
-            self.counts[job.program, " ".join(line.split()[:2]) if not line.startswith("0") else "0 accepted"] += 1
+            self.counts[given.program, " ".join(line.split()[:2]) if not line.startswith("0") else "0 accepted"] += 1
             is_accepted = line.startswith("0 ")
             if line[:2] not in ("0 ", "1 ", "2 ", "3 ", "4 ", "5 ", "6 ", "7 ") or ("\n" in line and not is_accepted):
-                self.tell(f"no line of a run: {line}", vector(job, files))
+                self.tell(f"no line of a run: {line}", vector(given, files))
             if is_accepted or self.runs % self.judged == 0:
                 self.compared += 1
-                said = job.said(files)
+                said = given.said(files)
                 if said != line:
-                    self.tell(f"{line}, not {said}", vector(job, files))
+                    self.tell(f"{line}, not {said}", vector(given, files))
 
     def print(self):
         for (program, what), many in sorted(self.counts.items()):
@@ -445,8 +445,8 @@ class Figures:
 def one_by_one(program, batch, figures, folder):
     """The lines of a batch that stops or is slow, by a run for each."""
     lines = []
-    for job, files in batch:
-        one = vector(job, files)
+    for given, files in batch:
+        one = vector(given, files)
         found, status, took = run(program, [one], folder)
         if status or len(found) != 1:
             figures.tell(f"status {status} of the process", one)

@@ -1,4 +1,4 @@
-"""Tests of `damaged_runs`: the jobs as they are, changes of files, and a program that answers otherwise than it has to.
+"""Tests of `damaged_runs`: the commands as they are, changes of files, and a program that answers otherwise than it has to.
 
     python3 -m unittest discover -s tools/tests
 """
@@ -41,29 +41,29 @@ class DamagedRunsTest(unittest.TestCase):
 
     @classmethod
     def setUpClass(cls):
-        cls.kinds = damaged_runs.jobs()
+        cls.kinds = damaged_runs.commands()
 
     def test_jobs(self):
         for kind in self.kinds:
-            self.assertTrue(any(job.said(job.files).startswith("0 ") for job in kind))
-            for job in kind:
-                self.assertLessEqual(set(job.changed), job.files.keys())
-        self.assertEqual({job.program for kind in self.kinds for job in kind}, set(damaged_runs.PROGRAMS))
+            self.assertTrue(any(given.said(given.files).startswith("0 ") for given in kind))
+            for given in kind:
+                self.assertLessEqual(set(given.changed), given.files.keys())
+        self.assertEqual({given.program for kind in self.kinds for given in kind}, set(damaged_runs.PROGRAMS))
 
     def test_programs(self):
         """Those that are named are drawn, each kind of theirs as before others were added."""
         for programs in ("picky_ask",), ("picky_ca", "picky_pe"):
-            self.assertEqual({job.program for job, _ in damaged_runs.cases(1, 40, programs)}, set(programs))
+            self.assertEqual({given.program for given, _ in damaged_runs.cases(1, 40, programs)}, set(programs))
         three = damaged_runs.PROGRAMS[:3]
-        self.assertEqual(damaged_runs.jobs_of(three), self.kinds[:6])
+        self.assertEqual(damaged_runs.commands_of(three), self.kinds[:6])
         for word in "", "picky,", "demo", "picky,picky_Ca":
             with self.assertRaises(argparse.ArgumentTypeError):
                 damaged_runs.names_in(word)
 
     def test_questions(self):
         """Several lines are one run's where they are questions."""
-        jobs = {job.words: job for job in self.kinds[6]}
-        texts = [job.said(job.files) for job in jobs.values()]
+        commands = {given.words: given for given in self.kinds[6]}
+        texts = [given.said(given.files) for given in commands.values()]
         self.assertEqual(damaged_runs.runs_in("".join(f"{text}\n" for text in texts)), texts)
         self.assertTrue(any(text.count("\n") > 1 for text in texts))
         self.assertEqual(damaged_runs.runs_in(""), [])
@@ -72,24 +72,24 @@ class DamagedRunsTest(unittest.TestCase):
 
     def test_room_for_questions(self):
         """No questions are longer than the room that their vector has."""
-        for job, files in damaged_runs.cases(5, 300, ["picky_ask"]):
-            self.assertLess(len(job.said(files)), int(damaged_runs.vector(job, files).split(" ")[1]))
+        for given, files in damaged_runs.cases(5, 300, ["picky_ask"]):
+            self.assertLess(len(given.said(files)), int(damaged_runs.vector(given, files).split(" ")[1]))
 
     def test_texts(self):
         """Registers that are accepted, refused and not in the form, by each change."""
         chance, found = random.Random(3), Counter()
         for change in damaged_runs.CHANGES_OF_TEXTS:
             for _ in range(100):
-                job = chance.choice(self.kinds[7])
-                text = change(chance, job.files["r"])
-                found[change, job.said({"r": text}).split(" ")[0]] += text != job.files["r"]
+                given = chance.choice(self.kinds[7])
+                text = change(chance, given.files["r"])
+                found[change, given.said({"r": text}).split(" ")[0]] += text != given.files["r"]
         for change in set(damaged_runs.CHANGES_OF_TEXTS):
             for status in "03":
                 self.assertGreater(found[change, status], 0, (change, status))
         for change in damaged_runs.with_lines, damaged_runs.with_number:
             self.assertGreater(found[change, "1"], 0, change)
-        job = self.kinds[7][0]
-        self.assertEqual([job.said({"r": octets}) for octets in (b"", b"\xff\n", b"\xc2\x85\n", b"\r\n")], ["0 ca issued=0 accepted=0", *["3 "] * 3])
+        given = self.kinds[7][0]
+        self.assertEqual([given.said({"r": octets}) for octets in (b"", b"\xff\n", b"\xc2\x85\n", b"\r\n")], ["0 ca issued=0 accepted=0", *["3 "] * 3])
 
     def test_ends(self):
         """Each number becomes one at an end, or beside it."""
@@ -102,8 +102,8 @@ class DamagedRunsTest(unittest.TestCase):
     def test_elements_fit(self):
         chance = random.Random(7)
         for kind in self.kinds[:7]:
-            job = kind[0]
-            octets = job.files[job.changed[0]]
+            given = kind[0]
+            octets = given.files[given.changed[0]]
             start, element = damaged_runs.element_in(octets)
             self.assertEqual(damaged_runs.refitted(octets, start, octets[start:]), octets)
             other = damaged_runs.with_elements(chance, octets)

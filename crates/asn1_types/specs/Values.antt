@@ -1,7 +1,7 @@
 -- What contracts see of a value: its contents octets, and the arcs of an OID.
 use Rattle.std.specs.Prelude.{ℕ, List, ◌∷◌}
 use Rattle.asn1_types.specs.declared.oid.ObjectIdentifier.{ObjectIdentifier}
-use Rattle.asn1_types.specs.declared.oid.lent.LentIdentifier.{LentIdentifier}
+use Rattle.asn1_types.specs.declared.oid.borrowed.LentIdentifier.{LentIdentifier}
 use Rattle.asn1_types.specs.declared.integer.IntegerAsn1.{IntegerAsn1}
 use Rattle.asn1_types.specs.declared.bit_string.BitString.{BitString}
 use Rattle.asn1_types.specs.declared.ia5_string.Ia5String.{Ia5String}

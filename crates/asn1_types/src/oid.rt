@@ -7,14 +7,14 @@ ghost use Rattle.asn1_types.specs.KnownIdentifiers.{is_known};
 ghost use Rattle.asn1_types.specs.Facts.OneIdentifier.{IsIdentifier-prop};
 
 mod arcs;
-mod lent;
+mod borrowed;
 mod subidentifier;
 mod traits;
 
 use crate::TextError;
 use arcs::{is_dotted, parse_arcs, root_of};
+pub use borrowed::LentIdentifier;
 use der_core::{DerError, Octets};
-pub use lent::LentIdentifier;
 use std::alloc::{AllocError, Global};
 use subidentifier::{after_subidentifier, subidentifiers};
 

@@ -14,7 +14,7 @@ use Rattle.authenticode_core.specs.Inside.SigningSteps.{HasSigner}
 use Rattle.authenticode_core.specs.IssuerWalk.{IsIssuerWalk}
 use Rattle.authenticode_core.specs.ListRules.{HasUntrustedCa, IsExcluded, IsOffList, IsSignerCa, IsSignerListed, IsTrustedCa, IsTrustedCaOf, ca_rules}
 use Rattle.authenticode_core.specs.Names.{HasSubject}
-use Rattle.authenticode_core.specs.Places.{HasNoPlace}
+use Rattle.authenticode_core.specs.Indices.{HasNoPlace}
 use Rattle.authenticode_core.specs.SignedFields.{IsFirstSigner}
 use Rattle.authenticode_core.specs.SigningRules.{HasNoCertificate, IsNamedByKey, RefusesAuthenticodeBy}
 use Rattle.authenticode_core.specs.TrustList.{IsOnList, name_rules}

@@ -2,14 +2,14 @@
 use Rattle.std.proofs.Common.{◌≡◌, ◌≢◌, ℕ, List, ◌∷◌, Option, MatchOption, sym, ap, subst, ◌∙◌}
 use Rattle.der_core.specs.DerElement.{DerElement, Primitive}
 use Rattle.der_core.specs.Elements.{sequence}
-use Rattle.der_core.specs.Kept.{IsKept}
+use Rattle.der_core.specs.Owned.{IsKept}
 use Rattle.sig_core.proofs.Variants.{identifier_same}
 use Rattle.sig_core.specs.ShaVariant.{digest_identifier, hash_of}
 use Rattle.sig_core.specs.declared.hash.HashAlgorithm.{HashAlgorithm}
 use Rattle.sig_core.specs.declared.sha_variant.ShaVariant.{ShaVariant}
 use Rattle.authenticode_core.specs.Inside.SigningSteps.{IsOfIdentifier}
 use Rattle.authenticode_core.specs.SigningRules.{NamesDigest}
-use Rattle.der_core.specs.Facts.Kept.{one_kept}
+use Rattle.der_core.specs.Facts.Owned.{one_kept}
 
 identifiers : (s t : List ℕ) (x y : List DerElement) → sequence (Primitive 0x06 s ∷ x) ≡ sequence (Primitive 0x06 t ∷ y) → s ≡ t
 identifiers s t x y e = cc

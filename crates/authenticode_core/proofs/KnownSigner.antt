@@ -11,7 +11,7 @@ use Rattle.authenticode_core.specs.BagSigner.{IsNamedByFirst}
 use Rattle.authenticode_core.specs.Inside.Naming.{IsFirstOfName}
 use Rattle.authenticode_core.specs.Inside.SigningSteps.{HasSigner, HasSignerAt}
 use Rattle.authenticode_core.specs.Inside.Wanted.{IsNamedBy}
-use Rattle.authenticode_core.specs.Places.{HasNoPlace}
+use Rattle.authenticode_core.specs.Indices.{HasNoPlace}
 use Rattle.authenticode_core.specs.SignedFields.{IsFirstSigner, signers_of}
 use Rattle.authenticode_core.specs.SigningRules.{IsSignerCertificate}
 use Rattle.authenticode_core.specs.declared.error.AuthenticodeError.TheVariants as errors

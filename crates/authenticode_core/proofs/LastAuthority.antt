@@ -11,7 +11,7 @@ use Rattle.x509_types.specs.CertificateView.{view_elements}
 use Rattle.authenticode_core.specs.AuthorityName.{AreAt, HasAuthorityName, IsAuthorityName, IsLastAuthority, IsNameAt, IsNoAuthority, NoneIsAuthority}
 use Rattle.authenticode_core.specs.Inside.AuthoritySteps.{IsNameAfter, IsNextName}
 use Rattle.authenticode_core.specs.OthersCursor.{GivesPlaces, IsFirstOf}
-use Rattle.authenticode_core.specs.Places.{StandsAt}
+use Rattle.authenticode_core.specs.Indices.{StandsAt}
 use Rattle.authenticode_core.specs.declared.bag.others.Source.{Source}
 use Rattle.authenticode_core.specs.declared.bag.BagCertificate.{BagCertificate}
 

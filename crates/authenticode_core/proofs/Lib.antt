@@ -6,15 +6,15 @@ pub mod ValueSteps
 pub mod OneData
 pub mod OneCertificate
 pub mod BagSteps
-pub mod PlaceSteps
+pub mod IndexSteps
 pub mod WalkSteps
 pub mod SignerSteps
 pub mod KnownSigner
 pub mod FirstAttributes
 pub mod DigestNames
 pub mod SignedMessages
-pub mod WalkedPlaces
-pub mod PassedPlaces
+pub mod WalkedIndices
+pub mod PassedIndices
 pub mod NamedMembers
 pub mod PlainShape
 pub mod PlainCertificate
@@ -33,7 +33,7 @@ pub mod OneExcuse
 pub mod OnePath
 pub mod WalkedAll
 pub mod OtherSteps
-pub mod LinkedPlaces
+pub mod LinkedIndices
 pub mod LastAuthority
 pub mod BasicOrder
 pub mod SignerOrder
@@ -42,5 +42,5 @@ pub mod CaNames
 pub mod CaOrder
 pub mod PolicyOrder
 pub mod OneAnswer
-pub mod LentLists
+pub mod BorrowedLists
 pub mod OctetsOfLists

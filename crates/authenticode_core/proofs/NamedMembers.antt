@@ -18,14 +18,14 @@ use Rattle.x509_types.specs.CertificateElements.{CertificateElements}
 use Rattle.x509_types.specs.CertificateView.{view_elements}
 use Rattle.authenticode_core.specs.BagSigner.{HasNoSigner, IsNamedByFirst}
 use Rattle.authenticode_core.specs.CertificateBag.{IsBag, IsMember}
-use Rattle.authenticode_core.specs.Places.{StandsAt, HasNoPlaceBetween, HasNoPlace, IsLeastPlace}
+use Rattle.authenticode_core.specs.Indices.{StandsAt, HasNoPlaceBetween, HasNoPlace, IsLeastPlace}
 use Rattle.authenticode_core.specs.Inside.Naming.{IsFirstOfName, IsNamedAt}
 use Rattle.authenticode_core.specs.SigningRules.{AsksForPurposes}
 use Rattle.authenticode_core.specs.declared.bag.BagCertificate.{BagCertificate}
 use Rattle.authenticode_core.specs.Inside.Wanted.{IsNamedBy}
 use Rattle.authenticode_core.specs.SignedFields.{IsFirstSigner, signers_of}
 use Rattle.authenticode_core.proofs.OneCertificate.{one_certificate}
-use Rattle.authenticode_core.proofs.PlaceSteps.{here, none_behind, none_yet}
+use Rattle.authenticode_core.proofs.IndexSteps.{here, none_behind, none_yet}
 use Rattle.authenticode_core.proofs.WalkSteps.{least_once}
 use Rattle.authenticode_core.proofs.SignerSteps.{heads, same_sid, two, contents}
 use Rattle.authenticode_core.proofs.NamedCertificates.{sid_is}

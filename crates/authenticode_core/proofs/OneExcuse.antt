@@ -8,7 +8,7 @@ use Rattle.der_core.specs.Optional.{members_of}
 use Rattle.der_core.specs.Rules.{IsFirstBroken, IsMet}
 use Rattle.der_core.proofs.RuleLists.{AreMet, AreReturnedOnce, IsReturnedOnce, none_broken, one_broken}
 use Rattle.key_core.specs.Verifying.{Judge}
-use Rattle.x509_core.specs.KeptCertificate.{KeptCertificate}
+use Rattle.x509_core.specs.OwnedCertificate.{KeptCertificate}
 use Rattle.x509_core.specs.declared.error.CertError.{CertError}
 use Rattle.x509_types.specs.CertificateElements.{CertificateElements}
 use Rattle.std.specs.Prelude.{length}

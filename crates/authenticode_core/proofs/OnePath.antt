@@ -5,7 +5,7 @@ use Rattle.der_core.specs.Rules.{IsFirstBroken}
 use Rattle.key_core.specs.Verifying.{Judge}
 use Rattle.x509_core.specs.Chain.{IsLinkedChain, last_of}
 use Rattle.x509_core.specs.Facts.Certs.{same_kept}
-use Rattle.x509_core.specs.KeptCertificate.{KeptCertificate}
+use Rattle.x509_core.specs.OwnedCertificate.{KeptCertificate}
 use Rattle.x509_core.specs.Link.{link_rules}
 use Rattle.x509_core.specs.declared.error.CertError.{CertError}
 use Rattle.x509_core.specs.declared.window.Window.{Window}
@@ -13,7 +13,7 @@ use Rattle.x509_core.proofs.OneLink.{link_once}
 use Rattle.x509_core.proofs.UnbrokenLinks.{link_is_met}
 use Rattle.x509_types.specs.CertificateElements.{CertificateElements}
 use Rattle.authenticode_core.specs.LinkedPath.{StandAt, AreLinkedAt, IsUnlinkedAt, IsVouchedPath}
-use Rattle.authenticode_core.specs.Places.{StandsAt}
+use Rattle.authenticode_core.specs.Indices.{StandsAt}
 use Rattle.authenticode_core.proofs.WalkSteps.{one_path, same_certificate}
 
 -- stored certificates with the same elements are the same

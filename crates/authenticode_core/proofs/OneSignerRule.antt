@@ -7,7 +7,7 @@ use Rattle.der_core.specs.Rules.{IsMet, IsFirstBroken}
 use Rattle.der_core.proofs.RuleLists.{AreMet, AreReturnedOnce, IsReturnedOnce, met_together}
 use Rattle.key_core.specs.Verifying.{Judge}
 use Rattle.x509_core.proofs.OneLink.{returned_once, window_once}
-use Rattle.x509_core.specs.KeptCertificate.{KeptCertificate}
+use Rattle.x509_core.specs.OwnedCertificate.{KeptCertificate}
 use Rattle.x509_core.specs.Link.{IsOutside}
 use Rattle.x509_core.specs.Window.{window_rules}
 use Rattle.x509_core.specs.declared.window.Window.{Window}

@@ -12,7 +12,7 @@ use Rattle.authenticode_core.specs.Excuses.{places_from}
 use Rattle.authenticode_core.specs.OthersCursor.{WalksOver, GoesOver, GivesPlaces, AreLeft, IsFirstOf}
 use Rattle.authenticode_core.specs.IssuerWalk.{IsWalkFrom, AreOthers}
 use Rattle.authenticode_core.specs.Names.{HasSubject}
-use Rattle.authenticode_core.specs.Places.{StandsAt, IsLeastPlace}
+use Rattle.authenticode_core.specs.Indices.{StandsAt, IsLeastPlace}
 use Rattle.authenticode_core.specs.WalkCursor.{LooksFrom}
 use Rattle.authenticode_core.specs.declared.bag.issuer_walk.IssuerWalk.{IssuerWalk}
 use Rattle.authenticode_core.specs.declared.bag.others.Others.{Others}

@@ -22,7 +22,7 @@ use Rattle.cms_types.specs.declared.version.CmsVersion.TheVariants as versions
 use Rattle.der_core.specs.DerElement.{DerElement}
 use Rattle.der_core.specs.Elements.{sequence, set, null, bit_octets, octet_string}
 use Rattle.der_core.specs.Encoding.{IsDer, IsPaddedEncoding}
-use Rattle.der_core.specs.Kept.{KeptElement}
+use Rattle.der_core.specs.Owned.{KeptElement}
 use Rattle.der_core.specs.Structure.{Fits}
 use Rattle.key_types.specs.declared.algorithm.AlgorithmIdentifier.{AlgorithmIdentifier}
 use Rattle.name_types.specs.declared.attribute.AttributeTypeAndValue.{AttributeTypeAndValue}

@@ -27,7 +27,7 @@ use Rattle.x509_types.specs.Purposes.{HasPurposes}
 use Rattle.authenticode_core.specs.BagSigner.{IsNamedByFirst}
 use Rattle.authenticode_core.specs.Basic.{VouchesFor}
 use Rattle.authenticode_core.specs.CertificateBag.{IsBag, IsMember}
-use Rattle.authenticode_core.specs.Places.{StandsAt}
+use Rattle.authenticode_core.specs.Indices.{StandsAt}
 use Rattle.authenticode_core.specs.PlainFields.{HasPlainFields, IsPlainlyAccepted, plain_data, plain_elements, plain_signer}
 use Rattle.authenticode_core.specs.PlainForm.{CertificateParts, IsPlain, IsPlainForm, PlainParts, algorithm}
 use Rattle.authenticode_core.specs.PlainForm.{plain_certificate, plain_name, plain_public_key_info, plain_message}

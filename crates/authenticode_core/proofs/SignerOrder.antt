@@ -13,7 +13,7 @@ use Rattle.x509_core.proofs.OneLink.{window_once}
 use Rattle.x509_core.proofs.Validity.{expired_is_returned, returned_is_expired, valid_is_met}
 use Rattle.x509_core.specs.Chain.{IsDated, LacksDate}
 use Rattle.x509_core.specs.Facts.Certs.{same_kept}
-use Rattle.x509_core.specs.KeptCertificate.{KeptCertificate}
+use Rattle.x509_core.specs.OwnedCertificate.{KeptCertificate}
 use Rattle.x509_core.specs.Link.{IsOutside}
 use Rattle.x509_core.specs.Rules.{Breaks}
 use Rattle.x509_core.specs.Window.{IsExpired, IsWithinWindow, window_rules}

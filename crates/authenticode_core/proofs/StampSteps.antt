@@ -12,7 +12,7 @@ use Rattle.x509_types.specs.CertificateView.{view_elements}
 use Rattle.x509_types.specs.Purposes.{NamesPurpose}
 use Rattle.authenticode_core.specs.Excuses.{HasBadStamp, HasToken, IsForStamping, IsLinkedToken, IsUnlinkedStamp}
 use Rattle.authenticode_core.specs.Excuses.{IsUnlistedStamp, LeadsStamping, NamesLifetime, NamesTimeStamping, stamp_rules}
-use Rattle.authenticode_core.specs.Places.{HasNoPlace, IsLeastPlace, StandsAt}
+use Rattle.authenticode_core.specs.Indices.{HasNoPlace, IsLeastPlace, StandsAt}
 use Rattle.authenticode_core.specs.SigningRules.{IsBagOf}
 use Rattle.authenticode_core.specs.declared.error.AuthenticodeError.{AuthenticodeError}
 use Rattle.authenticode_core.specs.declared.error.AuthenticodeError.TheVariants as errors

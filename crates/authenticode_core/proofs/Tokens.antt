@@ -13,7 +13,7 @@ use Rattle.cms_types.specs.declared.signer_info.SignerInfo.{SignerInfo}
 use Rattle.cms_types.specs.declared.signer_info.view.SignerView.{SignerView}
 use Rattle.der_core.specs.Optional.{members_of}
 use Rattle.der_core.specs.DerElement.{DerElement}
-use Rattle.der_core.specs.Lent.{at_option}
+use Rattle.der_core.specs.BorrowedOption.{at_option}
 use Rattle.der_core.specs.declared.elem.Elem.{Elem}
 use Rattle.authenticode_core.specs.Excuses.{HasToken}
 use Rattle.authenticode_core.specs.SignedFields.{IsAttributeOf, IsFirstSigner, signers_of}

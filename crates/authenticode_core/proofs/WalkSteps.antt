@@ -5,7 +5,7 @@ use Rattle.der_core.specs.DerElement.{DerElement}
 use Rattle.x509_types.specs.CertificateElements.{CertificateElements}
 use Rattle.authenticode_core.specs.IssuerWalk.{IsWalkFrom, AreOthers, IsIssuerWalk, IsIssuerPath}
 use Rattle.authenticode_core.specs.Names.{HasSubject}
-use Rattle.authenticode_core.specs.Places.{StandsAt, IsLeastPlace}
+use Rattle.authenticode_core.specs.Indices.{StandsAt, IsLeastPlace}
 
 not_less : (bag : List CertificateElements) (holds : CertificateElements → Type 0) (from p q : ℕ) (c d : CertificateElements) → IsLeastPlace bag holds from p c
     → IsLeastPlace bag holds from q d → p < q → ⊥

@@ -9,7 +9,7 @@ use Rattle.der_core.specs.Encoding.{encoding}
 use Rattle.x509_types.specs.CertificateElements.{CertificateElements}
 use Rattle.authenticode_core.specs.IssuerWalk.{IsWalkFrom, HasSubjectAt, AreOthers}
 use Rattle.authenticode_core.specs.Names.{HasSubject}
-use Rattle.authenticode_core.specs.Places.{StandsAt, HasNoPlaceBetween, HasNoPlace}
+use Rattle.authenticode_core.specs.Indices.{StandsAt, HasNoPlaceBetween, HasNoPlace}
 use Rattle.authenticode_core.proofs.WalkSteps.{same_certificate}
 
 -- ---- a certificate has a subject or not

@@ -5,7 +5,7 @@ use Rattle.der_core.specs.DerElement.{DerElement}
 use Rattle.x509_core.specs.CertType.{IsOfType}
 use Rattle.x509_core.specs.declared.cert_type.CertType.TheVariants as types
 use Rattle.x509_types.specs.CertificateElements.{CertificateElements}
-use Rattle.authenticode_core.specs.Places.{StandsAt}
+use Rattle.authenticode_core.specs.Indices.{StandsAt}
 
 -- the name of the CA of a CA certificate: an intermediate's issuer, a root's subject
 abbrev pub HasAuthorityName : CertificateElements → DerElement → Type 0

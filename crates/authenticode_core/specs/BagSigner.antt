@@ -9,7 +9,7 @@ use Rattle.cms_types.specs.declared.signer_info.SignerInfo.{SignerInfo}
 use Rattle.cms_types.specs.declared.signer_info.identifier.SignerIdentifier.TheVariants as named
 use Rattle.cms_types.specs.declared.signer_info.issuer_and_serial.IssuerAndSerialNumber.{IssuerAndSerialNumber}
 use Rattle.authenticode_core.specs.SameElements.{IsSameElement}
-use Rattle.authenticode_core.specs.Places.{IsLeastPlace, HasNoPlace}
+use Rattle.authenticode_core.specs.Indices.{IsLeastPlace, HasNoPlace}
 
 -- the certificate has this issuer and this serial number
 abbrev pub HasIssuerAndSerial : IssuerAndSerialNumber → CertificateElements → Type 0

@@ -16,7 +16,7 @@ use Rattle.der_core.specs.Optional.{members_of}
 use Rattle.der_core.specs.DerElement.{DerElement}
 use Rattle.der_core.specs.Rules.{Rule, IsFirstBroken}
 use Rattle.key_core.specs.Verifying.{Judge}
-use Rattle.x509_core.specs.KeptCertificate.{KeptCertificate}
+use Rattle.x509_core.specs.OwnedCertificate.{KeptCertificate}
 use Rattle.x509_core.specs.declared.error.CertError.{CertError}
 use Rattle.x509_core.specs.declared.window.DateCheck.TheVariants as dates
 use Rattle.x509_core.specs.declared.window.Window.{Window}
@@ -25,7 +25,7 @@ use Rattle.x509_types.specs.Purposes.{NamesPurpose}
 use Rattle.authenticode_core.specs.AuthorityName.{IsNameAt}
 use Rattle.authenticode_core.specs.IssuerWalk.{AreOthers}
 use Rattle.authenticode_core.specs.LinkedPath.{AreLinkedAt, IsPathAsked, IsUnlinkedAt}
-use Rattle.authenticode_core.specs.Places.{StandsAt}
+use Rattle.authenticode_core.specs.Indices.{StandsAt}
 use Rattle.authenticode_core.specs.Policy.{window_of}
 use Rattle.authenticode_core.specs.SignedFields.{IsAttributeOf, IsFirstSigner}
 use Rattle.authenticode_core.specs.SigningRules.{IsBagOf}

@@ -3,7 +3,7 @@ use Rattle.std.specs.Prelude.{◌≡◌, ◌⊎◌, ℕ, suc, List, [], ◌∷�
 use Rattle.der_core.specs.DerElement.{DerElement}
 use Rattle.x509_types.specs.CertificateElements.{CertificateElements}
 use Rattle.authenticode_core.specs.Names.{HasSubject}
-use Rattle.authenticode_core.specs.Places.{StandsAt, HasNoPlace, IsLeastPlace}
+use Rattle.authenticode_core.specs.Indices.{StandsAt, HasNoPlace, IsLeastPlace}
 
 -- The walk that searches for a subject from an index on: its first is the least such index, behind
 -- which it searches for the issuer there, and it ends if there is none.

@@ -8,7 +8,7 @@ pub mod Basic
 -- The certificates of signed data, the signer's index and the issuer walk, and how the cursors go
 -- over them.
 pub mod CertificateBag
-pub mod Places
+pub mod Indices
 pub mod BagSigner
 pub mod IssuerWalk
 pub mod LeftMembers

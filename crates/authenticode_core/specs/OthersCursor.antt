@@ -8,7 +8,7 @@ use Rattle.authenticode_core.specs.BagCursor.{StandsIn}
 use Rattle.authenticode_core.specs.Excuses.{places_from}
 use Rattle.authenticode_core.specs.IssuerWalk.{IsWalkFrom, AreOthers}
 use Rattle.authenticode_core.specs.LeftMembers.{left_members}
-use Rattle.authenticode_core.specs.Places.{StandsAt}
+use Rattle.authenticode_core.specs.Indices.{StandsAt}
 use Rattle.authenticode_core.specs.WalkCursor.{LooksFrom}
 use Rattle.authenticode_core.specs.declared.bag.issuer_walk.IssuerWalk.{IssuerWalk}
 use Rattle.authenticode_core.specs.declared.bag.others.Others.{Others}

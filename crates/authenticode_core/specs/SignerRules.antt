@@ -6,7 +6,7 @@ use Rattle.cms_types.specs.SignerElements.{SignerElements}
 use Rattle.der_core.specs.Rules.{Rule}
 use Rattle.key_core.specs.Verifying.{Judge}
 use Rattle.x509_core.specs.Chain.{IsDated, LacksDate}
-use Rattle.x509_core.specs.KeptCertificate.{KeptCertificate}
+use Rattle.x509_core.specs.OwnedCertificate.{KeptCertificate}
 use Rattle.x509_core.specs.Link.{IsOutside}
 use Rattle.x509_core.specs.Window.{HasBegun, HasNotEnded, IsExpired, IsWithinWindow}
 use Rattle.x509_core.specs.declared.error.CertError.{CertError}

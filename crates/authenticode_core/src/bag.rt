@@ -3,14 +3,14 @@
 ghost use Rattle.std.specs.Prelude.{◌≡◌, ℕ, suc, ◌+◌, ◌<◌, ◌^◌, List, [], length, None, MatchOption, IfSome};
 ghost use Rattle.std.specs.Coded.{Coded-set};
 ghost use Rattle.der_core.specs.Facts.Codes.{coded_element};
-ghost use Rattle.der_core.specs.Lent.{at_option};
+ghost use Rattle.der_core.specs.BorrowedOption.{at_option};
 ghost use Rattle.der_core.specs.Optional.{members_of};
 ghost use Rattle.x509_types.specs.CertificateElements.{CertificateElements, certificate_of};
 ghost use Rattle.x509_types.specs.CertificateView.{IsCertView, view_elements};
 ghost use Rattle.authenticode_core.specs.CertificateBag.{IsBag};
 ghost use Rattle.authenticode_core.specs.Inside.Wanted.{IsWanted};
 ghost use Rattle.authenticode_core.specs.LeftMembers.{left_members, BeginsBag};
-ghost use Rattle.authenticode_core.specs.Places.{StandsAt, HasNoPlace, IsLeastPlace};
+ghost use Rattle.authenticode_core.specs.Indices.{StandsAt, HasNoPlace, IsLeastPlace};
 
 pub(crate) mod certificates;
 pub(crate) mod issuer_walk;

@@ -2,7 +2,7 @@
 
 ghost use Rattle.std.specs.Prelude.{List, ℕ, MatchOption};
 ghost use Rattle.der_core.specs.DerElement.{DerElement};
-ghost use Rattle.der_core.specs.Kept.{IsKept};
+ghost use Rattle.der_core.specs.Owned.{IsKept};
 ghost use Rattle.sig_core.specs.declared.hash.HashAlgorithm.{HashAlgorithm};
 ghost use Rattle.authenticode_core.specs.Inside.SigningSteps.{IsOfIdentifier};
 ghost use Rattle.authenticode_core.specs.SigningRules.{NamesDigest};

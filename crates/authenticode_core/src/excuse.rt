@@ -6,7 +6,7 @@ ghost use Rattle.der_core.specs.Rules.{OrMemory};
 ghost use Rattle.x509_types.specs.CertificateElements.{CertificateElements};
 ghost use Rattle.x509_types.specs.CertificateView.{view_elements};
 ghost use Rattle.authenticode_core.specs.Excuses.{HasBadStamp, HasNoExcuse, HasReason, IsForStamping, IsLinkedToken, IsListedToken, IsUnlinkedStamp, IsUnlistedStamp, LeadsStamping, NamesTimeStamping};
-ghost use Rattle.authenticode_core.specs.Places.{StandsAt};
+ghost use Rattle.authenticode_core.specs.Indices.{StandsAt};
 ghost use Rattle.authenticode_core.specs.SigningRules.{IsBagOf};
 ghost use Rattle.authenticode_core.specs.declared.error.AuthenticodeError.TheVariants as errors;
 

@@ -12,7 +12,7 @@ ghost use Rattle.authenticode_core.specs.Inside.Linking.{IsBrokenNext, IsLinkedS
 ghost use Rattle.authenticode_core.specs.OthersCursor.{AreLeft};
 ghost use Rattle.authenticode_core.specs.IssuerWalk.{IsIssuerPath};
 ghost use Rattle.authenticode_core.specs.LinkedPath.{AreLinkedAt, IsUnlinkedAt, IsVouchedPath};
-ghost use Rattle.authenticode_core.specs.Places.{StandsAt};
+ghost use Rattle.authenticode_core.specs.Indices.{StandsAt};
 ghost use Rattle.authenticode_core.specs.SigningRules.{IsBagOf};
 
 use crate::bag::BagCertificate;

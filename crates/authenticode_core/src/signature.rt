@@ -5,7 +5,7 @@ ghost use Rattle.std.specs.Prelude.{◌≡◌, [], ◌∷◌, IfOk, MatchResult}
 ghost use Rattle.cms_types.specs.SignedView.{data_elements};
 ghost use Rattle.cms_types.specs.SignerView.{signer_elements_at};
 ghost use Rattle.der_core.specs.Elements.{sequence};
-ghost use Rattle.der_core.specs.Placed.{AreDer};
+ghost use Rattle.der_core.specs.Borrowed.{AreDer};
 ghost use Rattle.der_core.specs.Rules.{OrMemory};
 ghost use Rattle.key_types.specs.PublicKeyInfo.{inner_key};
 ghost use Rattle.key_core.specs.Keys.{info_of};

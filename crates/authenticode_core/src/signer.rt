@@ -5,7 +5,7 @@ ghost use Rattle.std.specs.Prelude.{◌≡◌, ◌↔◌, ℕ, List, [], ◌∷�
 ghost use Rattle.cms_types.specs.SignedView.{data_elements};
 ghost use Rattle.cms_types.specs.SignerView.{signer_elements_at};
 ghost use Rattle.der_core.specs.Rules.{OrMemory};
-ghost use Rattle.x509_core.specs.KeptCertificate.{KeptCertificate};
+ghost use Rattle.x509_core.specs.OwnedCertificate.{KeptCertificate};
 ghost use Rattle.x509_core.specs.Link.{IsOutside};
 ghost use Rattle.x509_core.specs.Rules.{Breaks};
 ghost use Rattle.x509_core.specs.declared.error.CertError.TheVariants as cert_errors;

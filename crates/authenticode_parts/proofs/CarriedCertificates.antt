@@ -3,7 +3,7 @@ use Rattle.std.proofs.Common.{◌≡◌, length, arith, List, [], ◌∷◌, ◌
 use Rattle.der_core.specs.DerElement.{DerElement}
 use Rattle.cms_types.specs.CertificateChoices.{certificate_choice}
 use Rattle.cms_types.specs.declared.signed_data.certificate_choices.CertificateChoices.{CertificateChoices}
-use Rattle.x509_core.specs.KeptCertificate.{KeptCertificate}
+use Rattle.x509_core.specs.OwnedCertificate.{KeptCertificate}
 use Rattle.x509_types.specs.CertificateElements.{certificate_of}
 use Rattle.authenticode_parts.specs.Carried.{elements_of}
 

@@ -1,4 +1,4 @@
 pub mod CarriedCertificates
 pub mod SortedCertificates
-pub mod KeptAttributes
-pub mod KeptNames
+pub mod OwnedAttributes
+pub mod OwnedNames

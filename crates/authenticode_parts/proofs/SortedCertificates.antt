@@ -6,7 +6,7 @@ use Rattle.der_core.specs.DerElement.{DerElement}
 use Rattle.cms_types.specs.CertificateChoices.{certificate_choice}
 use Rattle.cms_types.specs.declared.signed_data.certificate_choices.CertificateChoices.{CertificateChoices}
 use Rattle.x509_core.specs.CertType.{IsOfType}
-use Rattle.x509_core.specs.KeptCertificate.{KeptCertificate}
+use Rattle.x509_core.specs.OwnedCertificate.{KeptCertificate}
 use Rattle.x509_core.specs.declared.cert_type.CertType.TheVariants as types
 use Rattle.x509_core.proofs.Depths.{ca_once}
 use Rattle.x509_types.specs.CertificateElements.{CertificateElements, certificate_of}

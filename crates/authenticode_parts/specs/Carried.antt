@@ -2,7 +2,7 @@
 use Rattle.std.specs.Prelude.{◌≡◌, ◌⊎◌, List, [], ◌∷◌, map}
 use Rattle.der_core.specs.DerElement.{DerElement}
 use Rattle.x509_core.specs.CertType.{IsOfType}
-use Rattle.x509_core.specs.KeptCertificate.{KeptCertificate}
+use Rattle.x509_core.specs.OwnedCertificate.{KeptCertificate}
 use Rattle.x509_core.specs.declared.cert_type.CertType.TheVariants as types
 use Rattle.x509_types.specs.CertificateElements.{CertificateElements, certificate_of}
 

@@ -10,7 +10,7 @@ ghost use Rattle.cms_types.specs.SignedAttributesElement.{signed_attributes};
 ghost use Rattle.der_core.specs.DerElement.{DerElement};
 ghost use Rattle.der_core.specs.Elements.{octet_string};
 ghost use Rattle.der_core.specs.Encoding.{IsDer};
-ghost use Rattle.der_core.specs.Placed.{AreDer};
+ghost use Rattle.der_core.specs.Borrowed.{AreDer};
 ghost use Rattle.der_core.specs.Refusals.{RefusesInner};
 ghost use Rattle.x509_types.specs.Attribute.{attribute, inner_attributes};
 ghost use Rattle.x509_types.specs.AttributeValues.{inner_values};

@@ -8,7 +8,7 @@ ghost use Rattle.cms_content.specs.ContentInfoElements.{content_info_of};
 ghost use Rattle.cms_content.specs.IndirectData.{indirect_data_content};
 ghost use Rattle.cms_content.specs.SpcAttribute.{spc_attribute};
 ghost use Rattle.der_core.specs.Encoding.{IsDer};
-ghost use Rattle.der_core.specs.Placed.{contents_octets};
+ghost use Rattle.der_core.specs.Borrowed.{contents_octets};
 ghost use Rattle.der_core.specs.Refusals.{RefusesInner};
 ghost use Rattle.sig_core.specs.Digest.{digest_of};
 ghost use Rattle.authenticode_parts.specs.MadeContent.{data_element, image_element, image_value as image_octets};

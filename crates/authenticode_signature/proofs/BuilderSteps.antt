@@ -9,7 +9,7 @@ use Rattle.cms_types.specs.SignedDataElements.{SignedDataElements}
 use Rattle.cms_types.specs.declared.signer_info.issuer_and_serial.IssuerAndSerialNumber.{IssuerAndSerialNumber}
 use Rattle.der_core.specs.DerElement.{DerElement}
 use Rattle.der_core.specs.Encoding.{encoding}
-use Rattle.der_core.specs.Placed.{AreDer}
+use Rattle.der_core.specs.Borrowed.{AreDer}
 use Rattle.der_core.specs.Steps.{Step, AreTaken, IsFirstUntaken, RefusesBySteps}
 use Rattle.der_core.proofs.TakenSteps.{refused_before, refused_behind, untaken_before, untaken_behind}
 use Rattle.key_core.specs.Signing.{Signs, Pair, arithmetic}
@@ -19,7 +19,7 @@ use Rattle.key_core.specs.declared.signature_algorithm.SignatureAlgorithm.TheVar
 use Rattle.sig_core.specs.ShaVariant.{hash_of}
 use Rattle.sig_core.specs.declared.hash.HashAlgorithm.{HashAlgorithm}
 use Rattle.sig_core.specs.declared.sha_variant.ShaVariant.{ShaVariant}
-use Rattle.x509_core.specs.KeptCertificate.{KeptCertificate}
+use Rattle.x509_core.specs.OwnedCertificate.{KeptCertificate}
 use Rattle.x509_types.specs.Attribute.{attribute}
 use Rattle.x509_types.specs.CertificateElements.{CertificateElements}
 use Rattle.authenticode_core.specs.SigningRules.{IsForCodeSigning}

@@ -8,7 +8,7 @@ use Rattle.der_core.specs.DerElement.{DerElement}
 use Rattle.der_core.specs.Encoding.{encoding}
 use Rattle.x509_types.specs.CertificateElements.{CertificateElements}
 use Rattle.authenticode_core.specs.IssuerWalk.{IsWalkFrom}
-use Rattle.authenticode_core.specs.Places.{StandsAt}
+use Rattle.authenticode_core.specs.Indices.{StandsAt}
 use Rattle.authenticode_core.specs.SigningRules.{AsksForPurposes, IsForCodeSigning}
 use Rattle.authenticode_core.proofs.WalkSteps.{one_walk}
 use Rattle.authenticode_parts.specs.Carried.{AreCarried, AreWithoutRoots, IsRootCertificate}

@@ -7,7 +7,7 @@ use Rattle.der_core.specs.DerElement.{DerElement}
 use Rattle.der_core.specs.Encoding.{encoding}
 use Rattle.der_core.specs.Facts.Rows.{listed-row}
 use Rattle.der_core.specs.Optional.{members_of}
-use Rattle.x509_core.specs.KeptCertificate.{KeptCertificate, kept_octets}
+use Rattle.x509_core.specs.OwnedCertificate.{KeptCertificate, kept_octets}
 use Rattle.x509_types.specs.CertificateElements.{certificate_of}
 use Rattle.authenticode_core.specs.CertificateBag.{IsBag}
 use Rattle.authenticode_core.specs.SigningRules.{IsBagOf}

@@ -10,7 +10,7 @@ use Rattle.key_core.specs.Verifying.{Judge}
 use Rattle.x509_core.specs.Chain.{IsLinkedChain}
 use Rattle.x509_core.specs.History.{History, AreIssuers, AreAllowed}
 use Rattle.x509_core.specs.Issued.{HasCert, AreCertsAt, IsIssued}
-use Rattle.x509_core.specs.KeptCertificate.{KeptCertificate}
+use Rattle.x509_core.specs.OwnedCertificate.{KeptCertificate}
 use Rattle.x509_core.specs.Parent.{AgreeByName}
 use Rattle.x509_core.specs.Window.{IsWithinWindow}
 use Rattle.x509_core.proofs.IssuedLinks.{window_on, within as within_window, chain_linked, chain_allowed}
@@ -19,7 +19,7 @@ use Rattle.authenticode_core.specs.Basic.{VouchesFor}
 use Rattle.authenticode_core.specs.IssuerWalk.{IsWalkFrom, AreOthers, IsIssuerPath}
 use Rattle.authenticode_core.specs.LinkedPath.{StandAt, AreLinkedAt, IsVouchedPath}
 use Rattle.authenticode_core.specs.Names.{HasSubject}
-use Rattle.authenticode_core.specs.Places.{StandsAt, IsLeastPlace}
+use Rattle.authenticode_core.specs.Indices.{StandsAt, IsLeastPlace}
 use Rattle.authenticode_core.specs.SignerRules.{IsKeptSigner}
 use Rattle.authenticode_core.specs.SigningRules.{IsBagOf, IsSignerCertificate}
 use Rattle.authenticode_core.specs.Trusted.{IsTrusted}
@@ -27,7 +27,7 @@ use Rattle.authenticode_core.specs.declared.accepted.Accepted.{Accepted}
 use Rattle.authenticode_core.specs.declared.policy.Policy.{Policy}
 use Rattle.authenticode_core.proofs.OnePath.{kept_once, stand_once}
 use Rattle.authenticode_core.proofs.OneSigning.{same_bag, signer_once}
-use Rattle.authenticode_core.proofs.PlaceSteps.{here, none_behind}
+use Rattle.authenticode_core.proofs.IndexSteps.{here, none_behind}
 use Rattle.authenticode_core.proofs.PolicyOrder.{one_trusted}
 use Rattle.authenticode_core.proofs.WalkSteps.{one_path, same_certificate}
 use Rattle.authenticode_signature.specs.HistorySignature.{IsSignerOf, HaveOtherSubjects, all_checks_at, by_the_first_over, indices_from}

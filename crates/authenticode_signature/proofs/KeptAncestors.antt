@@ -9,7 +9,7 @@ use Rattle.x509_core.specs.CertType.{IsSelfIssued}
 use Rattle.x509_core.specs.Chain.{last_of}
 use Rattle.x509_core.specs.History.{IssuingStep, History, HasStep, HasIssuer, IsRootStep, AreIssuers, AreAllowed, IsDuring}
 use Rattle.x509_core.specs.Issued.{HasCert, AreCertsAt, IsIssued}
-use Rattle.x509_core.specs.KeptCertificate.{KeptCertificate}
+use Rattle.x509_core.specs.OwnedCertificate.{KeptCertificate}
 use Rattle.x509_core.proofs.Depths.{ca_once}
 use Rattle.x509_types.specs.CertificateElements.{CertificateElements}
 use Rattle.x509_types.specs.ExtensionParts.{HasCa}
@@ -112,7 +112,8 @@ module _ (judge : Judge) (history : History) (certificates : List KeptCertificat
     others = λ cert other. other;
   }
 
-  still_kept : (first : ℕ) (next : ℕ) (ancestors kept : List ℕ) → AreKeptOf history (next ∷ ancestors) kept → AreKeptOf history (first ∷ next ∷ ancestors) (first ∷ kept)
+  still_kept : (first : ℕ) (next : ℕ) (ancestors kept : List ℕ) → AreKeptOf history (next ∷ ancestors) kept
+      → AreKeptOf history (first ∷ next ∷ ancestors) (first ∷ kept)
   still_kept first next ancestors kept (inl (root, e, of)) = inl (root, ap (λ (is : List ℕ). first ∷ is) e, of)
   still_kept first next ancestors kept (inr (e, none)) = inr (ap (λ (is : List ℕ). first ∷ is) e, last)
     where

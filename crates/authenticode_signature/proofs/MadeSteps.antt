@@ -9,7 +9,7 @@ use Rattle.cms_types.specs.DigestAlgorithm.{digest_algorithm}
 use Rattle.cms_types.specs.SignedDataElements.{SignedDataElements}
 use Rattle.der_core.specs.DerElement.{DerElement, Primitive}
 use Rattle.der_core.specs.Encoding.{IsDer}
-use Rattle.der_core.specs.Placed.{AreDer}
+use Rattle.der_core.specs.Borrowed.{AreDer}
 use Rattle.der_core.specs.Refusals.{RefusesInner}
 use Rattle.der_core.specs.Steps.{AreTaken, RefusesBySteps}
 use Rattle.der_core.specs.declared.error.DerError.{DerError}

@@ -7,11 +7,11 @@ use Rattle.der_core.specs.DerElement.{DerElement}
 use Rattle.der_core.specs.Each.{list_element}
 use Rattle.der_core.specs.Encoding.{encoding, IsDer}
 use Rattle.der_core.specs.Structure.{Fits}
-use Rattle.der_core.specs.Facts.Kept.{same_encoded}
+use Rattle.der_core.specs.Facts.Owned.{same_encoded}
 use Rattle.der_core.specs.Facts.Rows.{listed-row}
 use Rattle.cms_types.specs.CertificateChoices.{certificate_choice}
 use Rattle.cms_types.specs.declared.signed_data.certificate_choices.CertificateChoices.{CertificateChoices}
-use Rattle.x509_core.specs.KeptCertificate.{KeptCertificate, kept_octets}
+use Rattle.x509_core.specs.OwnedCertificate.{KeptCertificate, kept_octets}
 use Rattle.x509_core.specs.Facts.CertificateParts.{parts_once, spelled_by}
 use Rattle.x509_types.specs.Certificate.{IsCertificate}
 use Rattle.x509_types.specs.CertificateElements.{CertificateElements, certificate_of, AreCertificateFields}

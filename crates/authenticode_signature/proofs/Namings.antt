@@ -15,9 +15,9 @@ use Rattle.asn1_types.specs.Values.{integer_contents}
 use Rattle.name_types.specs.Name.{name}
 use Rattle.name_types.specs.declared.attribute.AttributeTypeAndValue.{AttributeTypeAndValue}
 use Rattle.x509_types.specs.CertificateElements.{CertificateElements}
-use Rattle.x509_core.specs.KeptCertificate.{KeptCertificate}
+use Rattle.x509_core.specs.OwnedCertificate.{KeptCertificate}
 use Rattle.authenticode_parts.specs.Carried.{elements_of}
-use Rattle.authenticode_parts.proofs.KeptNames.{issuer_is, serial_is}
+use Rattle.authenticode_parts.proofs.OwnedNames.{issuer_is, serial_is}
 use Rattle.cms_types.specs.Facts.SignerInfos.{signer_infos}
 use Rattle.cms_types.specs.SignerInfo.{signer_info}
 use Rattle.cms_types.specs.declared.signer_info.SignerInfo.{SignerInfo}
@@ -25,7 +25,7 @@ use Rattle.cms_types.specs.declared.signer_info.identifier.SignerIdentifier.{Sig
 use Rattle.cms_types.specs.declared.signer_info.identifier.SignerIdentifier.TheVariants as named
 use Rattle.cms_types.specs.declared.signer_info.issuer_and_serial.IssuerAndSerialNumber.{IssuerAndSerialNumber}
 use Rattle.authenticode_core.specs.BagSigner.{IsNamedByFirst, HasNoSigner, HasIssuerAndSerial}
-use Rattle.authenticode_core.specs.Places.{HasNoPlace, HasNoPlaceBetween, IsLeastPlace, StandsAt}
+use Rattle.authenticode_core.specs.Indices.{HasNoPlace, HasNoPlaceBetween, IsLeastPlace, StandsAt}
 use Rattle.authenticode_signature.specs.SigningCertificate.{FirstNames, IsNamedOtherwise, IsSigningCertificate}
 
 -- ---- the index of a certificate

@@ -6,7 +6,7 @@ use Rattle.cms_types.specs.SignedDataElements.{SignedDataElements}
 use Rattle.der_core.specs.Rules.{AreOneUnlessMemory}
 use Rattle.key_core.specs.Verifying.{Judge}
 use Rattle.x509_core.specs.History.{IssuingStep, History, HasStep, IsDuring, IsAllowed, AreAllowed}
-use Rattle.x509_core.specs.KeptCertificate.{KeptCertificate}
+use Rattle.x509_core.specs.OwnedCertificate.{KeptCertificate}
 use Rattle.x509_core.specs.Window.{IsEarlier}
 use Rattle.x509_core.proofs.Histories.{step_once}
 use Rattle.x509_core.proofs.Rows.{holds_of_row}

@@ -5,8 +5,8 @@ use Rattle.cms_types.specs.SignedView.{IsSignedView, data_elements}
 use Rattle.cms_types.specs.declared.signed_data.view.SignedView.{SignedView}
 use Rattle.der_core.specs.DerElement.{DerElement}
 use Rattle.der_core.specs.Encoding.{IsDer}
-use Rattle.der_core.specs.Facts.Kept.{one_kept}
-use Rattle.der_core.specs.Kept.{IsKept}
+use Rattle.der_core.specs.Facts.Owned.{one_kept}
+use Rattle.der_core.specs.Owned.{IsKept}
 use Rattle.der_core.specs.Refusals.{RefusesInner}
 use Rattle.der_core.specs.Rules.{IsMet, IsFirstBroken, AreOneUnlessMemory}
 use Rattle.der_core.specs.declared.error.DerError.{DerError}

@@ -2,11 +2,11 @@
 use Rattle.std.proofs.Common.{◌≡◌, ◌↔◌, ◌⊎◌, IsTrue, Bool, true, false, not, ℕ, zero, suc, List, [], ◌∷◌, Some, inl, inr, refl, sym, subst, arith}
 use Rattle.std.specs.Prelude.{Contains, slice_get}
 use Rattle.asn1_types.specs.declared.oids.TheConstants.{KP_CODE_SIGNING}
-use Rattle.x509_core.specs.KeptCertificate.{KeptCertificate}
+use Rattle.x509_core.specs.OwnedCertificate.{KeptCertificate}
 use Rattle.x509_types.specs.CertificateElements.{CertificateElements}
 use Rattle.x509_types.specs.Purposes.{HasPurposes, NamesPurpose}
 use Rattle.authenticode_parts.specs.Carried.{elements_of}
-use Rattle.authenticode_core.specs.Places.{StandsAt}
+use Rattle.authenticode_core.specs.Indices.{StandsAt}
 use Rattle.authenticode_core.specs.SigningRules.{AsksForPurposes, IsForCodeSigning}
 use Rattle.authenticode_core.proofs.WalkSteps.{one_walk, same_certificate}
 use Rattle.authenticode_core.specs.declared.error.AuthenticodeError.TheVariants as errors

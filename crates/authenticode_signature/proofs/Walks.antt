@@ -5,12 +5,12 @@ use Rattle.std.proofs.lemmas.Bool.{both_ways}
 use Rattle.std.proofs.lemmas.Slice.Eq.{bytes_eq-Decides}
 use Rattle.der_core.specs.DerElement.{DerElement}
 use Rattle.der_core.specs.Encoding.{encoding}
-use Rattle.x509_core.specs.KeptCertificate.{KeptCertificate}
+use Rattle.x509_core.specs.OwnedCertificate.{KeptCertificate}
 use Rattle.x509_types.specs.CertificateElements.{CertificateElements}
 use Rattle.authenticode_parts.specs.Carried.{elements_of}
 use Rattle.authenticode_core.specs.IssuerWalk.{IsWalkFrom}
 use Rattle.authenticode_core.specs.Names.{HasSubject}
-use Rattle.authenticode_core.specs.Places.{HasNoPlace, HasNoPlaceBetween, IsLeastPlace}
+use Rattle.authenticode_core.specs.Indices.{HasNoPlace, HasNoPlaceBetween, IsLeastPlace}
 use Rattle.authenticode_signature.specs.Walk.{IsWalkOf, AreAtPlaces, walked}
 
 -- ---- one certificate more before the others

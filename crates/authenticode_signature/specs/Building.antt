@@ -13,7 +13,7 @@ use Rattle.cms_types.specs.declared.unsigned_attribute.UnsignedAttribute.{Unsign
 use Rattle.der_core.specs.DerElement.{DerElement}
 use Rattle.der_core.specs.Each.{list_element}
 use Rattle.der_core.specs.Encoding.{encoding}
-use Rattle.der_core.specs.Placed.{AreDer}
+use Rattle.der_core.specs.Borrowed.{AreDer}
 use Rattle.der_core.specs.Refusals.{RefusesInner}
 use Rattle.key_core.specs.SignatureRules.{RefusesSignatureBy}
 use Rattle.key_core.specs.Signing.{Signs, KeyArithmetic, IsAsked, sign_rules}
@@ -25,12 +25,12 @@ use Rattle.sig_core.specs.ShaVariant.{RefusesHash, hash_of}
 use Rattle.sig_core.specs.declared.hash.HashAlgorithm.{HashAlgorithm}
 use Rattle.sig_core.specs.declared.hash.HashAlgorithm.TheVariants.{SHA2_224}
 use Rattle.sig_core.specs.declared.sha_variant.ShaVariant.{ShaVariant}
-use Rattle.x509_core.specs.KeptCertificate.{KeptCertificate}
+use Rattle.x509_core.specs.OwnedCertificate.{KeptCertificate}
 use Rattle.x509_types.specs.Attribute.{attribute, inner_attributes}
 use Rattle.x509_types.specs.CertificateElements.{CertificateElements, certificate_of}
 use Rattle.x509_types.specs.declared.attribute.Attribute.{Attribute}
 use Rattle.authenticode_core.specs.ContentRefusal.{of_signatures}
-use Rattle.authenticode_core.specs.Places.{HasNoPlace, IsLeastPlace}
+use Rattle.authenticode_core.specs.Indices.{HasNoPlace, IsLeastPlace}
 use Rattle.authenticode_core.specs.SigningRules.{IsForCodeSigning}
 use Rattle.authenticode_core.specs.declared.error.AuthenticodeError.TheVariants as signatures
 use Rattle.authenticode_parts.specs.Carried.{AreWithoutRoots, elements_of}

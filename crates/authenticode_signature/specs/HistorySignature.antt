@@ -5,7 +5,7 @@ use Rattle.asn1_types.specs.declared.generalized_time.GeneralizedTime.{Generaliz
 use Rattle.key_core.specs.Verifying.{Judge}
 use Rattle.x509_core.specs.History.{IssuingStep, History, HasStep, AreIssuers, IsDuring}
 use Rattle.x509_core.specs.Issued.{HasCert, AreCertsAt, IsIssued}
-use Rattle.x509_core.specs.KeptCertificate.{KeptCertificate}
+use Rattle.x509_core.specs.OwnedCertificate.{KeptCertificate}
 use Rattle.x509_core.specs.declared.window.DateCheck.TheVariants as dates
 use Rattle.authenticode_core.specs.Names.{HasSubject}
 use Rattle.authenticode_core.specs.Policy.{first_policy}

@@ -6,7 +6,7 @@ use Rattle.der_core.specs.Rules.{AreOneUnlessMemory}
 use Rattle.key_core.specs.Verifying.{Judge}
 use Rattle.x509_core.specs.History.{IssuingStep, History, HasStep, AreAncestors, AreAllowed}
 use Rattle.x509_core.specs.Issued.{HasCert, AreCertsAt, IsIssued}
-use Rattle.x509_core.specs.KeptCertificate.{KeptCertificate}
+use Rattle.x509_core.specs.OwnedCertificate.{KeptCertificate}
 use Rattle.authenticode_core.specs.declared.accepted.Accepted.{Accepted}
 use Rattle.authenticode_core.specs.declared.error.CheckError.{CheckError}
 use Rattle.authenticode_core.specs.declared.error.CheckError.TheVariants.{Memory}

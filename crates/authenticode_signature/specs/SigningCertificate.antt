@@ -6,7 +6,7 @@ use Rattle.cms_types.specs.declared.signer_info.identifier.SignerIdentifier.{Sig
 use Rattle.cms_types.specs.declared.signer_info.identifier.SignerIdentifier.TheVariants as named
 use Rattle.cms_types.specs.declared.signer_info.issuer_and_serial.IssuerAndSerialNumber.{IssuerAndSerialNumber}
 use Rattle.names_core.specs.Names.{sets_of}
-use Rattle.x509_core.specs.KeptCertificate.{KeptCertificate}
+use Rattle.x509_core.specs.OwnedCertificate.{KeptCertificate}
 use Rattle.authenticode_parts.specs.Carried.{elements_of}
 use Rattle.authenticode_core.specs.BagSigner.{IsSignerPlace, HasNoSigner}
 use Rattle.authenticode_core.specs.declared.error.AuthenticodeError.{AuthenticodeError}

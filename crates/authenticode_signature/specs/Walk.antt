@@ -1,7 +1,7 @@
 -- The certificates of the issuer walk among stored certificates (RFC 5280 6.1).
 use Rattle.std.specs.Prelude.{◌≡◌, ◌⊎◌, ℕ, List, [], ◌∷◌, Some, if◌then◌else◌, bytes_eq, slice_get}
 use Rattle.der_core.specs.Encoding.{encoding}
-use Rattle.x509_core.specs.KeptCertificate.{KeptCertificate}
+use Rattle.x509_core.specs.OwnedCertificate.{KeptCertificate}
 use Rattle.x509_types.specs.Purposes.{HasPurposes}
 use Rattle.authenticode_parts.specs.Carried.{elements_of}
 use Rattle.authenticode_core.specs.IssuerWalk.{IsIssuerWalk}

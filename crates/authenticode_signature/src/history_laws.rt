@@ -13,7 +13,7 @@ ghost use Rattle.der_core.specs.Rules.{AreOneUnlessMemory};
 ghost use Rattle.key_core.specs.Verifying.{Judge};
 ghost use Rattle.x509_core.specs.History.{IssuingStep, History, HasStep, IsDuring, AreAllowed};
 ghost use Rattle.x509_core.specs.Issued.{AreCertsAt};
-ghost use Rattle.x509_core.specs.KeptCertificate.{KeptCertificate};
+ghost use Rattle.x509_core.specs.OwnedCertificate.{KeptCertificate};
 ghost use Rattle.x509_types.specs.CertificateElements.{CertificateElements};
 ghost use Rattle.authenticode_parts.specs.Carried.{AreCarried, IsRootCertificate, elements_of};
 ghost use Rattle.authenticode_signature.specs.HistorySignature.{IsSignerOf, all_checks_at, by_the_first_over};

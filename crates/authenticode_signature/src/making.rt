@@ -7,7 +7,7 @@ ghost use Rattle.cms_types.specs.OpusInfo.{opus_info};
 ghost use Rattle.cms_types.specs.SignedAttributesElement.{signed_attributes};
 ghost use Rattle.der_core.specs.DerElement.{DerElement};
 ghost use Rattle.der_core.specs.Encoding.{encoding, IsDer};
-ghost use Rattle.der_core.specs.Placed.{AreDer};
+ghost use Rattle.der_core.specs.Borrowed.{AreDer};
 ghost use Rattle.der_core.specs.Steps.{AreTaken, IsFirstUntaken, RefusesBySteps};
 ghost use Rattle.key_core.specs.declared.signature_algorithm.SignatureAlgorithm.TheVariants.{RsaPkcs1v15};
 ghost use Rattle.key_core.specs.Signing.{arithmetic};

@@ -11,7 +11,7 @@ ghost use Rattle.der_core.specs.declared.error.DerError.TheVariants as der_error
 ghost use Rattle.der_core.specs.declared.fault.DerFault.{DerFault};
 ghost use Rattle.cms_types.specs.Pkcs7.{pkcs7};
 ghost use Rattle.cms_types.specs.declared.signed_data.pkcs7.Pkcs7Certificate.{Pkcs7Certificate};
-ghost use Rattle.x509_core.specs.KeptCertificate.{kept_octets};
+ghost use Rattle.x509_core.specs.OwnedCertificate.{kept_octets};
 ghost use Rattle.x509_types.specs.CertificateElements.{certificate_of};
 ghost use Rattle.authenticode_parts.specs.Carried.{elements_of};
 ghost use Rattle.authenticode_core.specs.CertificateBag.{IsBag};

@@ -4,7 +4,7 @@ ghost use Rattle.std.specs.Prelude.{◌≡◌, ◌↔◌, Some, Err, IfOk, IsTru
 ghost use Rattle.authenticode_parts.specs.Carried.{elements_of};
 ghost use Rattle.cms_types.specs.declared.signer_info.identifier.SignerIdentifier.TheVariants as named;
 ghost use Rattle.names_core.specs.Names.{name_of_sets};
-ghost use Rattle.authenticode_core.specs.Places.{HasNoPlace, IsLeastPlace};
+ghost use Rattle.authenticode_core.specs.Indices.{HasNoPlace, IsLeastPlace};
 ghost use Rattle.authenticode_core.specs.BagSigner.{HasIssuerAndSerial};
 ghost use Rattle.authenticode_signature.specs.SigningCertificate.{HasNoSigningCertificate, FirstNames, IsNamedOtherwise, IsSigningCertificate};
 ghost use Rattle.authenticode_core.specs.declared.error.AuthenticodeError.{AuthenticodeError};

@@ -1,7 +1,7 @@
 //! Validating owned signatures.
 
 ghost use Rattle.std.specs.Prelude.{◌≡◌, true, false, Err, OnErr, OnOk, Result, MatchResult};
-ghost use Rattle.der_core.specs.Kept.{IsKept};
+ghost use Rattle.der_core.specs.Owned.{IsKept};
 ghost use Rattle.der_core.specs.Rules.{AreOneUnlessMemory, IsFirstBroken};
 ghost use Rattle.x509_core.specs.declared.window.DateCheck.TheVariants as dates;
 ghost use Rattle.authenticode_core.specs.Policy.{first_policy};

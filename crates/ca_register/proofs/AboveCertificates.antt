@@ -3,7 +3,7 @@ use Rattle.std.proofs.Common.{◌≡◌, ◌≤◌, ℕ, zero, suc, List, [], �
 use Rattle.std.specs.List.{slice_get}
 use Rattle.x509_core.specs.History.{AreAncestors, IsOrdered, IssuingStep}
 use Rattle.x509_core.specs.Issued.{AreCertsAt, HasCert}
-use Rattle.x509_core.specs.KeptCertificate.{KeptCertificate}
+use Rattle.x509_core.specs.OwnedCertificate.{KeptCertificate}
 use Rattle.x509_core.proofs.Histories.{item_at}
 use Rattle.x509_core.proofs.Validity.{same_some}
 use Rattle.ca_register.specs.Above.{before, certificates_above, issuer_in}

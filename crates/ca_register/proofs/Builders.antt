@@ -19,7 +19,7 @@ use Rattle.names_core.specs.Names.{name_of_sets}
 use Rattle.names_core.specs.declared.name.DirectoryName.{DirectoryName}
 use Rattle.x509_types.specs.FirstOfValue.{extensions_in}
 use Rattle.x509_core.specs.Issued.{HasCert}
-use Rattle.x509_core.specs.KeptCertificate.{KeptCertificate}
+use Rattle.x509_core.specs.OwnedCertificate.{KeptCertificate}
 use Rattle.x509_core.specs.Link.{IsBadlySignedLink, IsSignedBy, IsSignedWith, signed_octets}
 use Rattle.x509_core.specs.declared.error.CertCause.TheVariants as causes
 use Rattle.x509_core.specs.declared.error.CertError.{CertError}

@@ -29,7 +29,7 @@ use Rattle.der_core.specs.Facts.Codes.{coded_element}
 use Rattle.x509_core.specs.Distinct.{AreDistinct}
 use Rattle.x509_core.specs.FirstValue.{HasFirst}
 use Rattle.x509_core.specs.Issued.{IsCertifiedBy, IsRecordedAs}
-use Rattle.x509_core.specs.KeptCertificate.{KeptCertificate}
+use Rattle.x509_core.specs.OwnedCertificate.{KeptCertificate}
 use Rattle.x509_core.specs.Link.{IsBadlySignedLink, IsSignedBy, signed_octets}
 use Rattle.x509_core.specs.Parent.{AgreeByName}
 use Rattle.x509_core.specs.SaidValues.{HasLength, NamesKey, SayTheSame}

@@ -17,11 +17,11 @@ use Rattle.key_core.specs.declared.signature_error.SignatureError.TheVariants as
 use Rattle.name_types.specs.Name.{name}
 use Rattle.names_core.specs.Names.{sets_of}
 use Rattle.names_core.specs.declared.name.DirectoryName.{DirectoryName}
-use Rattle.ca_register.specs.Held.{line_held}
+use Rattle.ca_register.specs.Owned.{line_held}
 use Rattle.ca_register.specs.Lines.{IsLine, Line}
 use Rattle.ca_register.specs.declared.text.line.RegisterLine.{RegisterLine}
 use Rattle.x509_core.specs.Issued.{HasCert}
-use Rattle.x509_core.specs.KeptCertificate.{KeptCertificate}
+use Rattle.x509_core.specs.OwnedCertificate.{KeptCertificate}
 use Rattle.x509_core.specs.declared.error.CertError.{CertError}
 use Rattle.x509_core.specs.declared.error.CertError.TheVariants as cert_errors
 use Rattle.x509_core.proofs.Chains.{map_more}

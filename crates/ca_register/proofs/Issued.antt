@@ -12,8 +12,8 @@ use Rattle.x509_core.specs.declared.csr_error.CsrError.{CsrError}
 use Rattle.x509_core.specs.declared.csr_error.CsrError.TheVariants as csr_errors
 use Rattle.x509_core.specs.History.{IsOrdered}
 use Rattle.x509_core.specs.Issued.{HasCert}
-use Rattle.x509_core.specs.KeptCertificate.{KeptCertificate}
-use Rattle.x509_issuing.specs.KeptRequest.{KeptRequest, kept_request}
+use Rattle.x509_core.specs.OwnedCertificate.{KeptCertificate}
+use Rattle.x509_issuing.specs.OwnedRequest.{KeptRequest, kept_request}
 use Rattle.x509_issuing.specs.declared.builder.CertificateBuilder.{CertificateBuilder}
 use Rattle.x509_issuing.specs.declared.builder.SubjectInfos.{SubjectInfos}
 use Rattle.x509_issuing.specs.declared.builder.SubjectInfos.TheVariants as subjects

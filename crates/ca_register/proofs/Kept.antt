@@ -8,7 +8,7 @@ use Rattle.key_core.specs.Verifying.{Judge}
 use Rattle.x509_types.specs.ExtensionParts.{HasSubjectKey}
 use Rattle.x509_core.specs.History.{AreAncestors, IsOrdered}
 use Rattle.x509_core.specs.Issued.{HasCert, IsCertifiedBy, IsNext, IsRecordedAs}
-use Rattle.x509_core.specs.KeptCertificate.{KeptCertificate}
+use Rattle.x509_core.specs.OwnedCertificate.{KeptCertificate}
 use Rattle.x509_core.proofs.Validity.{same_some}
 use Rattle.ca_register.specs.Authorities.{AreAuthorities, IsRegister}
 use Rattle.ca_register.specs.Entries.{history_of, step_of}

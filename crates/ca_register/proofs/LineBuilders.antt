@@ -17,7 +17,7 @@ use Rattle.ca_register.specs.Lines.{Line}
 use Rattle.sig_core.specs.DemoScheme.{demo_verdict}
 use Rattle.x509_types.specs.FirstOfValue.{extensions_in}
 use Rattle.x509_types.specs.declared.extension.view.ExtensionView.TheVariants as views
-use Rattle.x509_core.specs.KeptCertificate.{KeptCertificate}
+use Rattle.x509_core.specs.OwnedCertificate.{KeptCertificate}
 use Rattle.x509_issuing.specs.BuiltCertificate.{IsGivenSubject, IsSubjectBy, authority_of}
 use Rattle.x509_issuing.specs.IssuedUnder.{IsIdentifiedBy}
 use Rattle.x509_issuing.specs.MadeExtensions.{inherited}

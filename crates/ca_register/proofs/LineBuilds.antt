@@ -28,7 +28,7 @@ use Rattle.x509_types.specs.declared.extension.Extension.{Extension}
 use Rattle.x509_types.specs.declared.extension.view.ExtensionView.TheVariants as views
 use Rattle.x509_core.specs.CertRefusals.{unwritten}
 use Rattle.x509_core.specs.FirstValue.{HasFirst}
-use Rattle.x509_core.specs.KeptCertificate.{KeptCertificate, written_elements}
+use Rattle.x509_core.specs.OwnedCertificate.{KeptCertificate, written_elements}
 use Rattle.x509_core.specs.Link.{signature_refusal}
 use Rattle.x509_core.specs.declared.error.CertError.{CertError}
 use Rattle.x509_core.specs.declared.error.CertError.TheVariants as errors
@@ -37,7 +37,7 @@ use Rattle.x509_issuing.specs.BuildRefusals.{no_half, no_key_id, no_octets, no_s
 use Rattle.x509_issuing.specs.BuiltCertificate.{IsTbsFor, serial_of}
 use Rattle.x509_issuing.specs.Building.{IsBuilt, IsMade, algorithm_step, build_steps, given_steps, identifier_step, message_of}
 use Rattle.x509_issuing.specs.Building.{octets_step, signature_step, steps_by, subject_steps, tbs_written, whole_step}
-use Rattle.x509_issuing.specs.KeptRequest.{KeptRequest}
+use Rattle.x509_issuing.specs.OwnedRequest.{KeptRequest}
 use Rattle.x509_issuing.specs.declared.builder.CertificateBuilder.{CertificateBuilder}
 use Rattle.x509_issuing.specs.declared.builder.IssuerInfos.{IssuerInfos}
 use Rattle.x509_issuing.specs.declared.builder.SubjectInfos.{SubjectInfos}

@@ -6,7 +6,7 @@ use Rattle.std.proofs.lemmas.Option.{slice_get_within}
 use Rattle.key_core.specs.Verifying.{Judge}
 use Rattle.x509_core.specs.History.{AreAncestors, HasStep, History, IsRootStep, IssuingStep}
 use Rattle.x509_core.specs.Issued.{IsIssued, IsNext}
-use Rattle.x509_core.specs.KeptCertificate.{KeptCertificate}
+use Rattle.x509_core.specs.OwnedCertificate.{KeptCertificate}
 use Rattle.x509_core.proofs.Chains.{map_more}
 use Rattle.x509_core.proofs.GrowingHistories.{IsOldOrNew, issued_with_step, old_or_new}
 use Rattle.x509_core.proofs.Validity.{same_some}

@@ -7,7 +7,7 @@ use Rattle.der_core.specs.DerElement.{DerElement}
 use Rattle.der_core.specs.Elements.{octet_string, sequence}
 use Rattle.der_core.specs.Encoding.{encoding, nesting}
 use Rattle.der_core.specs.Head.{number_from}
-use Rattle.der_core.specs.Lent.{kept_option}
+use Rattle.der_core.specs.BorrowedOption.{kept_option}
 use Rattle.asn1_types.specs.Elements.{object_identifier_of, time}
 use Rattle.asn1_types.specs.Integer.{IsUnsignedInteger}
 use Rattle.asn1_types.specs.declared.oids.TheConstants.{CE_AUTHORITY_KEY_IDENTIFIER, CE_BASIC_CONSTRAINTS, CE_SUBJECT_KEY_IDENTIFIER, CE_KEY_USAGE}

@@ -27,7 +27,7 @@ use Rattle.x509_types.specs.declared.certificate.Certificate.{Certificate}
 use Rattle.x509_types.specs.declared.certificate.tbs_certificate.TbsCertificate.{TbsCertificate}
 use Rattle.x509_types.specs.declared.certificate.validity.Validity.{Validity}
 use Rattle.x509_types.specs.declared.extension.Extension.{Extension}
-use Rattle.x509_core.specs.KeptCertificate.{written_elements}
+use Rattle.x509_core.specs.OwnedCertificate.{written_elements}
 use Rattle.x509_issuing.specs.BuiltCertificate.{IsTbsFor, authority_of, serial_of}
 use Rattle.x509_issuing.specs.Building.{IsSignedCertificate, message_of, tbs_written}
 use Rattle.x509_issuing.specs.Inherited.{with_others}

@@ -6,7 +6,7 @@ use Rattle.asn1_types.specs.declared.generalized_time.GeneralizedTime.{Generaliz
 use Rattle.key_core.specs.Verifying.{Judge}
 use Rattle.x509_core.specs.Chain.{last_of}
 use Rattle.x509_core.specs.History.{AreAncestors, AreAllowed, HasStep, History, IsDuring, IsValidAt, IssuingStep}
-use Rattle.x509_core.specs.KeptCertificate.{KeptCertificate}
+use Rattle.x509_core.specs.OwnedCertificate.{KeptCertificate}
 use Rattle.x509_core.specs.Window.{IsEarlier}
 use Rattle.x509_core.proofs.Histories.{ancestors_once, step_once}
 use Rattle.x509_core.proofs.Validity.{same_some}

@@ -2,7 +2,7 @@
 use Rattle.std.proofs.Common.{◌↔◌, ◌<◌, ℕ, IsTrue, Bool, List, ◌∷◌, length, sym, subst}
 use Rattle.asn1_types.specs.declared.generalized_time.GeneralizedTime.{GeneralizedTime}
 use Rattle.key_core.specs.Verifying.{Judge}
-use Rattle.x509_core.specs.KeptCertificate.{KeptCertificate}
+use Rattle.x509_core.specs.OwnedCertificate.{KeptCertificate}
 use Rattle.x509_core.specs.Window.{IsEarlier}
 use Rattle.x509_core.proofs.Histories.{ancestors_once, item_at}
 use Rattle.x509_core.proofs.IssuedLinks.{accepted, valid}

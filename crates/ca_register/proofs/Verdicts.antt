@@ -6,7 +6,7 @@ use Rattle.asn1_types.specs.declared.generalized_time.GeneralizedTime.{Generaliz
 use Rattle.key_core.specs.Verifying.{Judge}
 use Rattle.x509_core.specs.History.{AreAncestors}
 use Rattle.x509_core.specs.Issued.{AreCertsAt, HasCert}
-use Rattle.x509_core.specs.KeptCertificate.{KeptCertificate}
+use Rattle.x509_core.specs.OwnedCertificate.{KeptCertificate}
 use Rattle.x509_core.specs.declared.error.CertError.{CertError}
 use Rattle.ca_register.specs.Above.{certificates_above}
 use Rattle.ca_register.specs.Authorities.{IsRegister}

@@ -1,7 +1,7 @@
 -- The certificates of ancestors, as an iterator walks to them.
 use Rattle.std.specs.Prelude.{ℕ, zero, suc, List, [], ◌∷◌, Option, Some, None}
 use Rattle.std.specs.List.{slice_get}
-use Rattle.x509_core.specs.KeptCertificate.{KeptCertificate}
+use Rattle.x509_core.specs.OwnedCertificate.{KeptCertificate}
 use Rattle.ca_register.specs.declared.entry.Entry.{Entry}
 use Rattle.ca_register.specs.declared.ancestors.Ancestors.{Ancestors}
 

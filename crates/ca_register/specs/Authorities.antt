@@ -4,7 +4,7 @@ use Rattle.std.specs.List.{slice_get}
 use Rattle.key_core.specs.Verifying.{Judge}
 use Rattle.x509_core.specs.History.{AreAncestors, History, HasStep, IsRootStep, IssuingStep}
 use Rattle.x509_core.specs.Issued.{IsIssued}
-use Rattle.x509_core.specs.KeptCertificate.{KeptCertificate}
+use Rattle.x509_core.specs.OwnedCertificate.{KeptCertificate}
 use Rattle.ca_register.specs.Entries.{history_of}
 use Rattle.ca_register.specs.declared.entry.Entry.{Entry}
 

@@ -6,7 +6,7 @@ use Rattle.x509_core.specs.Chain.{IsAccepted}
 use Rattle.x509_core.specs.Checks.{checks_at, first_checks}
 use Rattle.x509_core.specs.History.{AreAncestors}
 use Rattle.x509_core.specs.Issued.{AreCertsAt, HasCert}
-use Rattle.x509_core.specs.KeptCertificate.{KeptCertificate}
+use Rattle.x509_core.specs.OwnedCertificate.{KeptCertificate}
 use Rattle.x509_core.specs.declared.window.DateCheck.TheVariants as dates
 use Rattle.ca_register.specs.Entries.{history_of}
 use Rattle.ca_register.specs.Usable.{IsBetween, IsUsable}

@@ -2,7 +2,7 @@
 use Rattle.std.specs.Prelude.{◌≡◌, ℕ, List, Some}
 use Rattle.std.specs.List.{slice_get}
 use Rattle.ca_register.specs.Lines.{Line}
-use Rattle.x509_core.specs.KeptCertificate.{KeptCertificate}
+use Rattle.x509_core.specs.OwnedCertificate.{KeptCertificate}
 use Rattle.ca_register.specs.LineCertificates.{AreForLines}
 use Rattle.ca_register.specs.LineEntries.{AreIssuable, entries_of}
 use Rattle.ca_register.specs.declared.entry.Entry.{Entry}

@@ -8,9 +8,9 @@ use Rattle.names_core.specs.Names.{sets_of}
 use Rattle.names_core.specs.declared.name.DirectoryName.{DirectoryName}
 use Rattle.sig_core.specs.declared.hash.HashAlgorithm.TheVariants.{SHA2_256}
 use Rattle.x509_types.specs.FirstOfValue.{extensions_in}
-use Rattle.x509_core.specs.KeptCertificate.{KeptCertificate}
+use Rattle.x509_core.specs.OwnedCertificate.{KeptCertificate}
 use Rattle.x509_issuing.specs.IssuedUnder.{IsIdentifiedBy}
-use Rattle.x509_issuing.specs.KeptRequest.{KeptRequest, kept_request}
+use Rattle.x509_issuing.specs.OwnedRequest.{KeptRequest, kept_request}
 use Rattle.x509_issuing.specs.declared.builder.CertificateBuilder.{CertificateBuilder}
 use Rattle.x509_issuing.specs.declared.builder.IssuerInfos.{IssuerInfos}
 use Rattle.x509_issuing.specs.declared.builder.SubjectInfos.{SubjectInfos}

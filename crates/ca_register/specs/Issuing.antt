@@ -9,12 +9,12 @@ use Rattle.key_core.specs.declared.element.Element.TheVariants as elements
 use Rattle.x509_issuing.specs.CertificationRequest.{IsRequest}
 use Rattle.x509_core.specs.History.{AreAncestors}
 use Rattle.x509_core.specs.Issued.{HasCert}
-use Rattle.x509_core.specs.KeptCertificate.{KeptCertificate}
+use Rattle.x509_core.specs.OwnedCertificate.{KeptCertificate}
 use Rattle.x509_core.specs.Link.{IsBadlySignedLink, IsSignedBy}
 use Rattle.x509_core.specs.declared.error.CertCause.TheVariants as causes
 use Rattle.x509_issuing.specs.Building.{IsBuilt, build_steps}
 use Rattle.x509_issuing.specs.CsrRefusals.{IsUnreadCsr}
-use Rattle.x509_issuing.specs.KeptRequest.{KeptRequest, kept_request}
+use Rattle.x509_issuing.specs.OwnedRequest.{KeptRequest, kept_request}
 use Rattle.x509_issuing.specs.declared.builder.CertificateBuilder.{CertificateBuilder}
 use Rattle.ca_register.specs.Entries.{HasEntry, history_of}
 use Rattle.ca_register.specs.Refusals.{unbuilt, unread_request, wrong_key}

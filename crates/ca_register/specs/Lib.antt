@@ -19,6 +19,6 @@ pub mod Commands
 pub mod Above
 -- Inside, which no public contract cites.
 pub mod Filling
-pub mod HeldCommand
+pub mod OwnedCommand
 pub mod Lines
-pub mod Held
+pub mod Owned

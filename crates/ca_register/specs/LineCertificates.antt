@@ -14,7 +14,7 @@ use Rattle.x509_types.specs.FirstOfValue.{extensions_in}
 use Rattle.x509_types.specs.declared.extension.view.ExtensionView.TheVariants as views
 use Rattle.x509_core.specs.FirstValue.{HasFirst}
 use Rattle.x509_core.specs.Issued.{HasCert}
-use Rattle.x509_core.specs.KeptCertificate.{KeptCertificate}
+use Rattle.x509_core.specs.OwnedCertificate.{KeptCertificate}
 use Rattle.ca_register.specs.LineKeys.{AreLineKeys, key_id_of}
 
 -- a name that is this common name, as a UTF8String (RFC 5280 4.1.2.4)

@@ -2,7 +2,7 @@
 use Rattle.std.specs.Prelude.{◌≡◌, ℕ, List, length, Option}
 use Rattle.asn1_types.specs.declared.generalized_time.GeneralizedTime.{GeneralizedTime}
 use Rattle.sig_core.specs.DemoScheme.{demo_verdict}
-use Rattle.x509_core.specs.KeptCertificate.{KeptCertificate}
+use Rattle.x509_core.specs.OwnedCertificate.{KeptCertificate}
 use Rattle.program_frame.specs.Commands.{Line as ReportLine}
 use Rattle.program_frame.specs.Limits.{IsWholeFile}
 use Rattle.program_frame.specs.ReadFiles.{HandsOut}

@@ -5,7 +5,7 @@ ghost use Rattle.std.specs.List.{AllByRecursion, slice_get};
 ghost use Rattle.key_core.specs.PrivatePkcs1.{IsPrivatePkcs1};
 ghost use Rattle.name_types.specs.Name.{name};
 ghost use Rattle.names_core.specs.Names.{sets_of};
-ghost use Rattle.ca_register.specs.Held.{line_held};
+ghost use Rattle.ca_register.specs.Owned.{line_held};
 ghost use Rattle.ca_register.specs.Lines.{IsLine, Line};
 ghost use Rattle.ca_register.specs.Filling.{IsFilled, IsKeyAt};
 ghost use Rattle.ca_register.specs.LineCertificates.{common_name};

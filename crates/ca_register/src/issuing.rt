@@ -12,10 +12,10 @@ ghost use Rattle.key_core.specs.declared.signature_algorithm.SignatureAlgorithm.
 ghost use Rattle.key_core.specs.declared.signature_error.SignatureError.{SignatureError as Unsigned};
 ghost use Rattle.x509_types.specs.ExtensionParts.{HasSubjectKey};
 ghost use Rattle.x509_core.specs.Issued.{HasCert, IsCertifiedBy, IsNext, IsRecordedAs};
-ghost use Rattle.x509_core.specs.KeptCertificate.{KeptCertificate};
+ghost use Rattle.x509_core.specs.OwnedCertificate.{KeptCertificate};
 ghost use Rattle.x509_core.specs.Link.{IsBadlySignedLink, IsSignedBy};
 ghost use Rattle.x509_core.specs.declared.error.CertCause.TheVariants as causes;
-ghost use Rattle.x509_issuing.specs.KeptRequest.{kept_request};
+ghost use Rattle.x509_issuing.specs.OwnedRequest.{kept_request};
 ghost use Rattle.x509_issuing.specs.declared.builder.SubjectInfos.{SubjectInfos as Subject};
 ghost use Rattle.x509_issuing.specs.declared.builder.SubjectInfos.TheVariants as subjects;
 ghost use Rattle.ca_register.specs.Entries.{step_of};

@@ -6,7 +6,7 @@ ghost use Rattle.x509_core.specs.Chain.{IsAccepted, chain_rules};
 ghost use Rattle.x509_core.specs.Checks.{checks_at, first_checks};
 ghost use Rattle.x509_core.specs.History.{AreAncestors};
 ghost use Rattle.x509_core.specs.Issued.{AreCertsAt, HasCert};
-ghost use Rattle.x509_core.specs.KeptCertificate.{KeptCertificate};
+ghost use Rattle.x509_core.specs.OwnedCertificate.{KeptCertificate};
 ghost use Rattle.x509_core.specs.Rules.{RefusesCertBy};
 ghost use Rattle.x509_core.specs.declared.error.CertError.TheVariants as errors;
 ghost use Rattle.x509_core.specs.declared.window.DateCheck.TheVariants as dates;

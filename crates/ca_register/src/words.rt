@@ -3,7 +3,7 @@
 ghost use Rattle.std.specs.Prelude.{◌≡◌, MatchOption, Some, map, option_map, string_bytes};
 ghost use Rattle.program_frame.specs.Commands.{AsksForNothing};
 ghost use Rattle.ca_register.specs.Commands.{program};
-ghost use Rattle.ca_register.specs.HeldCommand.{command_held};
+ghost use Rattle.ca_register.specs.OwnedCommand.{command_held};
 ghost use Rattle.ca_register.specs.Words.{AsksFor, Command as AskedCommand};
 
 use crate::command::Command;

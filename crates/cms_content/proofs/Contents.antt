@@ -7,8 +7,8 @@ use Rattle.std.proofs.lemmas.Grind.{merely}
 use Rattle.std.proofs.lemmas.Slice.Eq.{bytes_eq-Decides}
 use Rattle.der_core.specs.DerElement.{DerElement, Primitive}
 use Rattle.der_core.specs.Elements.{octet_string}
-use Rattle.der_core.specs.Kept.{KeptElement}
-use Rattle.der_core.specs.Lent.{at_option}
+use Rattle.der_core.specs.Owned.{KeptElement}
+use Rattle.der_core.specs.BorrowedOption.{at_option}
 use Rattle.der_core.specs.Facts.Equality.{options_same, same_tests}
 use Rattle.der_core.specs.declared.elem.Elem.{Elem}
 use Rattle.asn1_types.specs.Values.{identifier_contents}
@@ -20,7 +20,7 @@ use Rattle.cms_content.specs.ContentKind.{named_content}
 use Rattle.cms_content.specs.ContentValue.{kind_of_content, content_value, IsContentOf, HasKind, SpellsContent, content_octets}
 use Rattle.cms_content.specs.ContentInfoElements.{content_info_of}
 use Rattle.cms_content.specs.ContentInfo.{content_info}
-use Rattle.cms_content.specs.LentContent.{lent_content, HasContent}
+use Rattle.cms_content.specs.BorrowedContent.{lent_content, HasContent}
 use Rattle.cms_content.specs.Facts.ContentInfos.{fields_once, same_info, values_by_octets}
 use Rattle.cms_content.specs.declared.content_kind.ContentKind.{ContentKind}
 use Rattle.cms_content.specs.declared.ctl.Ctl.{Ctl}

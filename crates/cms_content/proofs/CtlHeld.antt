@@ -5,7 +5,7 @@ use Rattle.der_core.specs.DerElement.{DerElement}
 use Rattle.der_core.specs.Each.{IsListOf, IsWrittenList, list_element}
 use Rattle.der_core.specs.Elements.{sequence, octet_string}
 use Rattle.der_core.specs.Encoding.{IsWellFormed}
-use Rattle.der_core.specs.Kept.{KeptElement}
+use Rattle.der_core.specs.Owned.{KeptElement}
 use Rattle.der_core.specs.Refusals.{RefusesInner}
 use Rattle.der_core.specs.Facts.Lists.{list_printed, none_inner}
 use Rattle.der_core.specs.declared.error.DerError.{DerError}

@@ -1,9 +1,9 @@
 -- The view of a content with its type.
 use Rattle.std.specs.Prelude.{◌≡◌}
 use Rattle.der_core.specs.DerElement.{DerElement}
-use Rattle.der_core.specs.Lent.{at_option}
+use Rattle.der_core.specs.BorrowedOption.{at_option}
 use Rattle.cms_content.specs.ContentInfo.{content_info}
-use Rattle.cms_content.specs.LentContent.{lent_content}
+use Rattle.cms_content.specs.BorrowedContent.{lent_content}
 use Rattle.cms_content.specs.declared.content_info.EncapsulatedContentInfo.{EncapsulatedContentInfo}
 use Rattle.cms_content.specs.declared.content_view.ContentView.{ContentView}
 

@@ -5,7 +5,7 @@ use Rattle.std.specs.Prelude.{◌≡◌}
 use Rattle.der_core.specs.DerElement.{DerElement}
 use Rattle.der_core.specs.Each.{list_element}
 use Rattle.der_core.specs.Elements.{octet_string}
-use Rattle.der_core.specs.Kept.{KeptElement}
+use Rattle.der_core.specs.Owned.{KeptElement}
 use Rattle.cms_content.specs.HeldPurposesElement.{held_purposes}
 use Rattle.cms_content.specs.declared.ctl_kind.CtlKind.{CtlKind}
 use Rattle.cms_content.specs.declared.ctl_kind.CtlKind.TheVariants as kinds

@@ -17,7 +17,7 @@ pub mod ContentKind
 pub mod ContentValue
 pub mod ContentInfoElements
 pub mod ContentInfo
-pub mod LentContent
+pub mod BorrowedContent
 pub mod ContentView
 pub mod TimestampRequest
 pub mod Facts

@@ -4,7 +4,7 @@
 use Rattle.std.specs.Prelude.{◌∷◌, Option, option_to_list}
 use Rattle.der_core.specs.DerElement.{DerElement}
 use Rattle.der_core.specs.Elements.{sequence}
-use Rattle.der_core.specs.Lent.{kept_option}
+use Rattle.der_core.specs.BorrowedOption.{kept_option}
 use Rattle.asn1_types.specs.Elements.{object_identifier}
 use Rattle.cms_content.specs.declared.spc_attribute.SpcAttributeTypeAndOptionalValue.{SpcAttributeTypeAndOptionalValue}
 

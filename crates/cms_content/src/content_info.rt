@@ -2,7 +2,7 @@
 
 ghost use Rattle.std.specs.Prelude.{◌≡◌, ◌≢◌, ◌↔◌, IsTrue, Option, MatchOption};
 ghost use Rattle.der_core.specs.DerElement.{DerElement};
-ghost use Rattle.der_core.specs.Lent.{at_option};
+ghost use Rattle.der_core.specs.BorrowedOption.{at_option};
 ghost use Rattle.asn1_types.specs.Values.{identifier_contents};
 ghost use Rattle.cms_content.specs.ContentKind.{named_content};
 ghost use Rattle.cms_content.specs.ContentValue.{HasKind};

@@ -2,7 +2,7 @@
 
 ghost use Rattle.std.specs.Prelude.{◌≡◌, ◌↔◌, [], false, IfOk, IsTrue, MatchResult, Option};
 ghost use Rattle.der_core.specs.Encoding.{IsWellFormed};
-ghost use Rattle.der_core.specs.Lent.{at_option};
+ghost use Rattle.der_core.specs.BorrowedOption.{at_option};
 ghost use Rattle.der_core.specs.Refusals.{RefusesShape, RefusesInner};
 ghost use Rattle.der_core.specs.Structure.{Fits};
 ghost use Rattle.cms_content.specs.ContentValue.{kind_of_content, content_value, IsContentOf, SpellsContent};

@@ -1,7 +1,7 @@
 //! Contents with their types, borrowed.
 
-ghost use Rattle.der_core.specs.Lent.{at_option};
-ghost use Rattle.cms_content.specs.LentContent.{HasContent};
+ghost use Rattle.der_core.specs.BorrowedOption.{at_option};
+ghost use Rattle.cms_content.specs.BorrowedContent.{HasContent};
 
 use crate::content_info::{EncapsulatedContentInfo, Fields};
 use der_core::tag::OBJECT_IDENTIFIER;
@@ -19,7 +19,7 @@ impl<'a> ContentView<'a> {
     ghost use Rattle.std.specs.Prelude.{◌≡◌, ◌≢◌, MatchOption};
     ghost use Rattle.cms_content.specs.ContentInfo.{content_info};
     ghost use Rattle.cms_content.specs.ContentView.{IsContentView};
-    ghost use Rattle.cms_content.specs.LentContent.{lent_content};
+    ghost use Rattle.cms_content.specs.BorrowedContent.{lent_content};
     ghost use Rattle.cms_content.specs.declared.content_info.EncapsulatedContentInfo.{EncapsulatedContentInfo};
 
     /// The view of an element, None if it encodes no content with its type.

@@ -4,9 +4,9 @@ use Rattle.std.specs.Option.{option_eq}
 use Rattle.std.specs.Cmp.Lexicographic.{pointwise}
 use Rattle.der_core.specs.DerElement.{DerElement}
 use Rattle.der_core.specs.Equality.{same_octets}
-use Rattle.der_core.specs.Kept.{KeptElement}
+use Rattle.der_core.specs.Owned.{KeptElement}
 use Rattle.der_core.specs.Structure.{IsGrammar}
-use Rattle.der_core.specs.Facts.Kept.{same_kept}
+use Rattle.der_core.specs.Facts.Owned.{same_kept}
 use Rattle.der_core.specs.Facts.Equality.{by_test, octets_decide, octets_same, options_same, pointwise_same, kept_same}
 
 -- the octets that are written for a value determine it

@@ -2,7 +2,7 @@
 use Rattle.std.proofs.Common.{◌≡◌, ℕ, List, Some, slice_get, sym, ap, ◌∙◌}
 use Rattle.std.specs.Option.{option_map}
 use Rattle.der_core.specs.DerElement.{DerElement}
-use Rattle.der_core.specs.Kept.{KeptElement}
+use Rattle.der_core.specs.Owned.{KeptElement}
 use Rattle.der_core.specs.Refusals.{RefusesShape}
 use Rattle.der_core.specs.declared.error.DerError.{DerError}
 use Rattle.der_core.specs.declared.error.DerError.TheVariants as errors

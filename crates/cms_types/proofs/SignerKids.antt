@@ -5,7 +5,7 @@ use Rattle.std.proofs.lemmas.List.{append-nil}
 use Rattle.der_core.specs.DerElement.{DerElement, Primitive, Constructed, row, listed, tag_of}
 use Rattle.der_core.specs.Facts.Rows.{row-listed}
 use Rattle.der_core.specs.Encoding.{IsDer, form_bit}
-use Rattle.der_core.specs.Lent.{at_option}
+use Rattle.der_core.specs.BorrowedOption.{at_option}
 use Rattle.der_core.specs.Structure.{Fits, BeginsOtherwise, BeginsUnfit, HasMore}
 use Rattle.der_core.specs.declared.elem.Elem.{Elem}
 use Rattle.der_core.proofs.Parts.{same_kids}

@@ -10,14 +10,14 @@ use Rattle.der_core.specs.DerElement.{DerElement, Constructed, row, tag_of}
 use Rattle.der_core.specs.Elements.{sequence, set, explicit}
 use Rattle.der_core.specs.Encoding.{IsDer}
 use Rattle.der_core.specs.Each.{list_element}
-use Rattle.der_core.specs.Kept.{KeptElement}
-use Rattle.der_core.specs.Placed.{AreDer}
+use Rattle.der_core.specs.Owned.{KeptElement}
+use Rattle.der_core.specs.Borrowed.{AreDer}
 use Rattle.der_core.specs.Refusals.{RefusesShape}
 use Rattle.der_core.specs.declared.error.DerError.{DerError}
 use Rattle.der_core.specs.declared.error.DerError.TheVariants as errors
 use Rattle.der_core.specs.Structure.{Fits}
 use Rattle.der_core.specs.Facts.Lists.{printed_list, list_printed}
-use Rattle.der_core.specs.Facts.Placed.{kids_in_bounds}
+use Rattle.der_core.specs.Facts.Borrowed.{kids_in_bounds}
 use Rattle.der_core.specs.Facts.Rows.{listed-row}
 use Rattle.asn1_types.specs.Elements.{object_identifier}
 use Rattle.asn1_types.specs.Values.{identifier_contents}

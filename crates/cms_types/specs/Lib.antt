@@ -18,7 +18,7 @@ pub mod UnsignedKind
 pub mod Levels
 pub mod Signers
 pub mod SignerSet
-pub mod Lent
+pub mod Borrowed
 pub mod Members
 pub mod AttributeElement
 pub mod UnsignedAttribute

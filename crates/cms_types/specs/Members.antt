@@ -1,7 +1,7 @@
 -- Raw elements, as elements.
 use Rattle.std.specs.Prelude.{List, [], ◌∷◌, ◌++◌, map, flat_map}
 use Rattle.der_core.specs.DerElement.{DerElement}
-use Rattle.der_core.specs.Kept.{KeptElement}
+use Rattle.der_core.specs.Owned.{KeptElement}
 
 -- the element of a raw one
 abbrev pub element_of_kept : KeptElement → DerElement

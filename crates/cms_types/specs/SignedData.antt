@@ -3,7 +3,7 @@ use Rattle.std.specs.Prelude.{◌≡◌}
 use Rattle.std.specs.Option.{option_map}
 use Rattle.der_core.specs.DerElement.{DerElement}
 use Rattle.der_core.specs.Each.{IsListOf, list_element, Prints}
-use Rattle.der_core.specs.Kept.{KeptElement}
+use Rattle.der_core.specs.Owned.{KeptElement}
 use Rattle.key_types.specs.AlgorithmIdentifier.{algorithm_identifier}
 use Rattle.cms_content.specs.ContentInfo.{content_info}
 use Rattle.cms_types.specs.CmsVersion.{cms_version}

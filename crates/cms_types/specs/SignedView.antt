@@ -1,7 +1,7 @@
 -- Signed data, borrowed.
 use Rattle.std.specs.Prelude.{◌≡◌}
 use Rattle.der_core.specs.DerElement.{DerElement}
-use Rattle.cms_types.specs.Lent.{signed_data_at}
+use Rattle.cms_types.specs.Borrowed.{signed_data_at}
 use Rattle.cms_types.specs.Levels.{AreSignedDataFields}
 use Rattle.cms_types.specs.SignedDataElements.{SignedDataElements, signed_data_of}
 use Rattle.cms_types.specs.Pkcs7Elements.{pkcs7_of}

@@ -4,7 +4,7 @@ use Rattle.asn1_types.specs.Elements.{integer_of}
 use Rattle.der_core.specs.DerElement.{DerElement}
 use Rattle.der_core.specs.Elements.{sequence}
 use Rattle.der_core.specs.Encoding.{encoding}
-use Rattle.cms_types.specs.Lent.{signer_at}
+use Rattle.cms_types.specs.Borrowed.{signer_at}
 use Rattle.cms_types.specs.Levels.{AreSignerFields}
 use Rattle.cms_types.specs.SignerElements.{SignerElements, signer_of}
 use Rattle.cms_types.specs.SignerInfo.{signer_info}

@@ -4,8 +4,8 @@ ghost use Rattle.std.specs.Prelude.{◌≡◌, ◌++◌, ◌∷◌, [], IfOk, Ma
 ghost use Rattle.std.specs.Option.{option_map};
 ghost use Rattle.der_core.specs.Each.{IsListOf, list_element};
 ghost use Rattle.der_core.specs.Encoding.{IsTag, form_bit};
-ghost use Rattle.der_core.specs.Lent.{at_option};
-ghost use Rattle.der_core.specs.Placed.{AreDer};
+ghost use Rattle.der_core.specs.BorrowedOption.{at_option};
+ghost use Rattle.der_core.specs.Borrowed.{AreDer};
 ghost use Rattle.der_core.specs.Refusals.{RefusesShape, RefusesInner};
 ghost use Rattle.der_core.specs.Optional.{SpellsOption};
 ghost use Rattle.cms_types.specs.Optional.{inner_list};

@@ -47,7 +47,7 @@ pub struct SignedData {
 impl SignedDataFields<'_> {
     ghost use Rattle.std.specs.Prelude.{MatchResult};
     ghost use Rattle.der_core.specs.Refusals.{RefusesShape};
-    ghost use Rattle.cms_types.specs.Lent.{signed_data_at};
+    ghost use Rattle.cms_types.specs.Borrowed.{signed_data_at};
     ghost use Rattle.cms_types.specs.SignedData.{AreDataFields};
 
     /// Reads the value from the fields.

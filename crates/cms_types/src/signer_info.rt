@@ -38,7 +38,7 @@ pub struct SignerInfo {
 impl SignerFields<'_> {
     ghost use Rattle.std.specs.Prelude.{MatchResult};
     ghost use Rattle.der_core.specs.Refusals.{RefusesShape};
-    ghost use Rattle.cms_types.specs.Lent.{signer_at};
+    ghost use Rattle.cms_types.specs.Borrowed.{signer_at};
     ghost use Rattle.cms_types.specs.SignerInfo.{AreFieldsOf};
 
     /// Reads the value from the fields.

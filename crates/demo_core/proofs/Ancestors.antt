@@ -8,7 +8,7 @@ use Rattle.x509_core.specs.Chain.{IsAccepted, chain_rules, last_of}
 use Rattle.x509_core.specs.Checks.{checks_at, first_checks}
 use Rattle.x509_core.specs.History.{AreIssuers, HasIssuer, HasStep, History, IsRootStep, IssuingStep}
 use Rattle.x509_core.specs.Issued.{AreCertsAt, HasCert}
-use Rattle.x509_core.specs.KeptCertificate.{KeptCertificate}
+use Rattle.x509_core.specs.OwnedCertificate.{KeptCertificate}
 use Rattle.x509_core.specs.Rules.{RefusesCertBy}
 use Rattle.x509_core.specs.declared.error.CertError.{CertError}
 use Rattle.x509_core.specs.declared.error.CertError.TheVariants as errors

@@ -12,7 +12,7 @@ use Rattle.key_core.specs.declared.private_key.PrivateKey.{PrivateKey}
 use Rattle.key_core.specs.declared.public_key.PublicKey.{PublicKey}
 use Rattle.x509_core.specs.History.{IssuingStep}
 use Rattle.x509_core.specs.Issued.{HasCert, IsNext}
-use Rattle.x509_core.specs.KeptCertificate.{KeptCertificate}
+use Rattle.x509_core.specs.OwnedCertificate.{KeptCertificate}
 use Rattle.x509_core.specs.declared.error.CertError.{CertError}
 use Rattle.x509_issuing.specs.IssuedUnder.{IsIssuedUnder}
 use Rattle.x509_issuing.specs.TakenStep.{IsIssuerAt, TakesStep}

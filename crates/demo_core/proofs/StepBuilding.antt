@@ -16,7 +16,7 @@ use Rattle.x509_types.specs.Certificate.{certificate}
 use Rattle.x509_types.specs.TbsCertificate.{tbs_certificate}
 use Rattle.x509_types.specs.declared.certificate.Certificate.{Certificate}
 use Rattle.x509_types.specs.declared.certificate.tbs_certificate.TbsCertificate.{TbsCertificate}
-use Rattle.x509_core.specs.KeptCertificate.{written_elements}
+use Rattle.x509_core.specs.OwnedCertificate.{written_elements}
 use Rattle.x509_issuing.specs.BuiltCertificate.{IsTbsFor}
 use Rattle.x509_issuing.specs.Building.{IsSignedCertificate, message_of, tbs_written}
 use Rattle.x509_issuing.specs.declared.builder.CertificateBuilder.{CertificateBuilder}

@@ -2,8 +2,8 @@
 use Rattle.std.proofs.Common.{◌≡◌, ℕ, ◌+◌, ◌<◌, List, Option, Some, None, Result, MatchResult, refl, sym, subst, ◌∙◌, arith}
 use Rattle.std.proofs.lemmas.Result.{MatchResult-weaker}
 use Rattle.std.proofs.Math.Logic.{∥∥₁_elim}
-use Rattle.der_core.specs.Facts.Placed.{AreDer-prop}
-use Rattle.der_core.specs.Placed.{AreDer}
+use Rattle.der_core.specs.Facts.Borrowed.{AreDer-prop}
+use Rattle.der_core.specs.Borrowed.{AreDer}
 use Rattle.asn1_types.specs.declared.oids.TheConstants.{CE_SUBJECT_KEY_IDENTIFIER}
 use Rattle.sig_core.specs.DemoScheme.{demo_verdict}
 use Rattle.key_core.specs.KeyIdentifier.{IsKeyIdentifier}
@@ -18,7 +18,7 @@ use Rattle.x509_types.specs.declared.extension.Extension.{Extension}
 use Rattle.x509_types.specs.declared.extension.view.ExtensionView.TheVariants as views
 use Rattle.x509_core.specs.Facts.CertificateParts.{parts_once, spelled_by}
 use Rattle.x509_core.specs.FirstValue.{HasFirst}
-use Rattle.x509_core.specs.KeptCertificate.{KeptCertificate}
+use Rattle.x509_core.specs.OwnedCertificate.{KeptCertificate}
 use Rattle.x509_core.specs.declared.error.CertError.{CertError}
 use Rattle.x509_core.specs.declared.error.CertError.TheVariants as errors
 use Rattle.x509_core.proofs.Alike.{say_the_same}

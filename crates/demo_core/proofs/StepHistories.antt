@@ -8,7 +8,7 @@ use Rattle.asn1_types.specs.declared.generalized_time.GeneralizedTime.{Generaliz
 use Rattle.sig_core.specs.DemoScheme.{demo_verdict}
 use Rattle.x509_core.specs.History.{IssuingStep}
 use Rattle.x509_core.specs.Issued.{HasCert, IsNext}
-use Rattle.x509_core.specs.KeptCertificate.{KeptCertificate}
+use Rattle.x509_core.specs.OwnedCertificate.{KeptCertificate}
 use Rattle.x509_core.proofs.Chains.{one_more}
 use Rattle.x509_core.proofs.GrowingHistories.{IsOldOrNew, issued_with_step, old_or_new}
 use Rattle.x509_core.proofs.Validity.{same_some}

@@ -4,7 +4,7 @@ use Rattle.std.proofs.Common.{◌<◌, ◌≤◌, List, [], ◌∷◌, ◌++◌,
 use Rattle.std.proofs.lemmas.Bool.{cases_lt, ltb-false, ltb-true}
 use Rattle.der_core.specs.DerElement.{DerElement, Primitive}
 use Rattle.der_core.specs.Head.{number_from}
-use Rattle.der_core.specs.Lent.{kept_option}
+use Rattle.der_core.specs.BorrowedOption.{kept_option}
 use Rattle.asn1_types.specs.Calendar.{IsUtcYear}
 use Rattle.asn1_types.specs.Elements.{object_identifier_of, time}
 use Rattle.asn1_types.specs.Integer.{IsUnsignedInteger}

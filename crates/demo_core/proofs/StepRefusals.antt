@@ -18,7 +18,7 @@ use Rattle.key_core.specs.declared.signature_error.SignatureError.TheVariants as
 use Rattle.key_core.specs.declared.signature_algorithm.SignatureAlgorithm.TheVariants.{RsaPkcs1v15}
 use Rattle.sig_core.specs.declared.hash.HashAlgorithm.TheVariants.{SHA2_256}
 use Rattle.x509_core.specs.CertRefusals.{unwritten}
-use Rattle.x509_core.specs.KeptCertificate.{written_elements}
+use Rattle.x509_core.specs.OwnedCertificate.{written_elements}
 use Rattle.x509_core.specs.Link.{signature_refusal}
 use Rattle.x509_core.specs.declared.error.CertError.{CertError}
 use Rattle.x509_core.specs.declared.error.CertError.TheVariants as errors
@@ -26,7 +26,7 @@ use Rattle.x509_issuing.specs.BuildRefusals.{no_half, no_key_id, no_octets, no_s
 use Rattle.x509_issuing.specs.BuiltCertificate.{IsTbsFor}
 use Rattle.x509_issuing.specs.Building.{algorithm_step, build_steps, given_steps, identifier_step, message_of}
 use Rattle.x509_issuing.specs.Building.{octets_step, signature_step, steps_by, subject_steps, tbs_written, whole_step}
-use Rattle.x509_issuing.specs.KeptRequest.{KeptRequest}
+use Rattle.x509_issuing.specs.OwnedRequest.{KeptRequest}
 use Rattle.names_core.specs.declared.name.DirectoryName.{DirectoryName}
 use Rattle.key_core.specs.declared.public_key.PublicKey.{PublicKey}
 use Rattle.x509_issuing.specs.declared.builder.CertificateBuilder.{CertificateBuilder}

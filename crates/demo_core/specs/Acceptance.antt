@@ -5,7 +5,7 @@ use Rattle.der_core.specs.Counting.{IsCount}
 use Rattle.asn1_types.specs.declared.generalized_time.GeneralizedTime.{GeneralizedTime}
 use Rattle.x509_core.specs.History.{AreAncestors, History, IsValidAt}
 use Rattle.x509_core.specs.Issued.{AreCertsAt}
-use Rattle.x509_core.specs.KeptCertificate.{KeptCertificate}
+use Rattle.x509_core.specs.OwnedCertificate.{KeptCertificate}
 use Rattle.demo_core.specs.Issuing.{IsHistoryOf}
 use Rattle.demo_core.specs.declared.history.Step.{Step}
 

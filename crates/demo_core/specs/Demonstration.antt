@@ -4,7 +4,7 @@ use Rattle.hex.specs.Hex.{encode_lower}
 use Rattle.sig_core.specs.VerdictTable.{newline}
 use Rattle.asn1_types.specs.declared.generalized_time.GeneralizedTime.{GeneralizedTime}
 use Rattle.x509_core.specs.History.{IsValidAt}
-use Rattle.x509_core.specs.KeptCertificate.{KeptCertificate}
+use Rattle.x509_core.specs.OwnedCertificate.{KeptCertificate}
 use Rattle.der_core.specs.Counting.{IsCount}
 use Rattle.demo_core.specs.Acceptance.{IsRootAt}
 use Rattle.demo_core.specs.Builders.{IsYearGiven}

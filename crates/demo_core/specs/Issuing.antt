@@ -10,7 +10,7 @@ use Rattle.x509_types.specs.ExtensionParts.{HasSubjectKey}
 use Rattle.sig_core.specs.DemoScheme.{demo_verdict}
 use Rattle.x509_core.specs.History.{IssuingStep, HasStep, History}
 use Rattle.x509_core.specs.Issued.{HasCert, IsIssued}
-use Rattle.x509_core.specs.KeptCertificate.{KeptCertificate}
+use Rattle.x509_core.specs.OwnedCertificate.{KeptCertificate}
 use Rattle.demo_core.specs.Builders.{IsYearGiven}
 use Rattle.demo_core.specs.Certificates.{step_certificate, step_key_id, step_name}
 use Rattle.demo_core.specs.Secrets.{AreStepKeys}

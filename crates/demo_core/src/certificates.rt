@@ -5,7 +5,7 @@ ghost use Rattle.std.specs.List.{slice_get};
 ghost use Rattle.sig_core.specs.DemoScheme.{demo_verdict};
 ghost use Rattle.x509_core.specs.History.{IssuingStep};
 ghost use Rattle.x509_core.specs.Issued.{HasCert, IsNext};
-ghost use Rattle.x509_core.specs.KeptCertificate.{KeptCertificate};
+ghost use Rattle.x509_core.specs.OwnedCertificate.{KeptCertificate};
 ghost use Rattle.x509_core.specs.declared.error.CertError.TheVariants as errors;
 ghost use Rattle.demo_core.specs.History.{AreInOrder, IsStepAt};
 ghost use Rattle.demo_core.specs.Issuing.{AreStepCerts, IsOfSubject, IsRecordOf, IsStepCert};

@@ -4,7 +4,7 @@ ghost use Rattle.std.specs.Prelude.{◌≡◌, ◌<◌, length, flat_map, MatchR
 ghost use Rattle.std.specs.Fmt.{WritesOnOk};
 ghost use Rattle.sha2.specs.Sha256.{sha256};
 ghost use Rattle.x509_core.specs.Issued.{HasCert};
-ghost use Rattle.x509_core.specs.KeptCertificate.{KeptCertificate, kept_octets};
+ghost use Rattle.x509_core.specs.OwnedCertificate.{KeptCertificate, kept_octets};
 ghost use Rattle.x509_core.specs.declared.error.CertError.TheVariants as errors;
 ghost use Rattle.demo_core.specs.Demonstration.{IsDemonstration, counts_text, report_text, sum_text};
 

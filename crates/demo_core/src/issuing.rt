@@ -7,7 +7,7 @@ ghost use Rattle.key_core.specs.PrivatePkcs1.{IsPrivatePkcs1};
 ghost use Rattle.sig_core.specs.DemoScheme.{demo_verdict};
 ghost use Rattle.x509_core.specs.History.{IssuingStep};
 ghost use Rattle.x509_core.specs.Issued.{HasCert, IsNext};
-ghost use Rattle.x509_core.specs.KeptCertificate.{KeptCertificate};
+ghost use Rattle.x509_core.specs.OwnedCertificate.{KeptCertificate};
 ghost use Rattle.x509_core.specs.declared.error.CertError.TheVariants as errors;
 ghost use Rattle.demo_core.specs.Builders.{IsBegun, IsStepName};
 ghost use Rattle.demo_core.specs.History.{IsStepAt};

@@ -5,8 +5,8 @@ use Rattle.der_core.specs.DerElement.{DerElement, DerElements, Nil, Cons, row, l
 use Rattle.der_core.specs.Facts.Rows.{row-listed}
 use Rattle.der_core.specs.Encoding.{encoding, encodings, nesting, IsDer}
 use Rattle.der_core.specs.Facts.Fronts.{some_octets, fronts, same_kids}
-use Rattle.der_core.specs.Placed.{AreDer, IsElem, AreElems, HasElems}
-use Rattle.der_core.specs.Facts.Placed.{all_formed, all_short}
+use Rattle.der_core.specs.Borrowed.{AreDer, IsElem, AreElems, HasElems}
+use Rattle.der_core.specs.Facts.Borrowed.{all_formed, all_short}
 use Rattle.der_core.specs.Reading.{AreDerWithin, HasElementsWithin, IsFirst}
 use Rattle.der_core.specs.Cursor.{BeginsAt, WereTested}
 

@@ -1,7 +1,7 @@
 -- The steps of a reader of trees: a leaf, a branch, one more kid, and why there is none.
 use Rattle.std.proofs.Common.{◌≡◌, ℕ, ◌-◌, ◌<◌, List, [], ◌∷◌, ◌++◌, length, drop, Ok, Err, refl, sym, ap, subst, ◌∙◌, append_assoc, arith}
 use Rattle.std.proofs.lemmas.List.{append-nil, length-append, take_at, take-append-drop}
-use Rattle.der_core.specs.Placed.{contents_octets}
+use Rattle.der_core.specs.Borrowed.{contents_octets}
 use Rattle.der_core.specs.declared.fault.DerFault.{DerFault}
 use Rattle.der_core.specs.DerElement.{DerElement, Primitive, Constructed, DerElements, Nil, Cons, row, tag_of}
 use Rattle.der_core.specs.Encoding.{encoding, encodings, form_bit, IsDerWithin}

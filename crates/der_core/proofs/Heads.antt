@@ -3,7 +3,7 @@ use Rattle.std.proofs.Common.{◌≡◌, ℕ, suc, ◌%◌, ◌^◌, ◌<◌, �
 use Rattle.std.proofs.Common.{take, drop, Result, Ok, Err, refl, sym, ap, subst, ◌∙◌, append_assoc, arith}
 use Rattle.std.proofs.lemmas.Bool.{ltb-false, le-ltb, eqb-false, ne_eqb}
 use Rattle.std.proofs.lemmas.List.{take_at, drop_at, take-append-drop, length-append, length-take-le}
-use Rattle.der_core.specs.Placed.{contents_octets}
+use Rattle.der_core.specs.Borrowed.{contents_octets}
 use Rattle.der_core.specs.declared.fault.DerFault.{DerFault}
 use Rattle.der_core.specs.declared.fault.DerFault.TheVariants.{Truncated, ReservedTag, HighTag, TooDeep}
 use Rattle.der_core.specs.DerElement.{DerElement, Primitive, Constructed, tag_of}

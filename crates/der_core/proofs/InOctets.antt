@@ -7,9 +7,9 @@ use Rattle.der_core.specs.Encoding.{encoding, encodings, form_bit, IsDer, IsDerW
 use Rattle.der_core.specs.Facts.Fronts.{ok_is, some_octets}
 use Rattle.der_core.specs.Reading.{HasElementsWithin, IsFirst}
 use Rattle.der_core.specs.Head.{head_at, BeginsWithHead}
-use Rattle.der_core.specs.Placed.{contents_octets, IsElem, HasElem, AreElems, HasElems}
-use Rattle.der_core.specs.Facts.Placed.{HasElem-prop, HasElems-prop, same_elements, kids_in_bounds}
-use Rattle.der_core.specs.Kept.{IsKept, Kept}
+use Rattle.der_core.specs.Borrowed.{contents_octets, IsElem, HasElem, AreElems, HasElems}
+use Rattle.der_core.specs.Facts.Borrowed.{HasElem-prop, HasElems-prop, same_elements, kids_in_bounds}
+use Rattle.der_core.specs.Owned.{IsKept, Kept}
 use Rattle.der_core.proofs.Heads.{head_again}
 
 -- ---- the kids of an element

@@ -3,7 +3,7 @@ use Rattle.std.proofs.Common.{◌≡◌, List, [], ◌∷◌, ◌++◌, refl, sy
 use Rattle.der_core.specs.DerElement.{DerElement}
 use Rattle.der_core.specs.declared.error.DerError.{DerError}
 use Rattle.der_core.specs.declared.error.DerError.TheVariants as errors
-use Rattle.der_core.specs.Placed.{AreDer}
+use Rattle.der_core.specs.Borrowed.{AreDer}
 use Rattle.der_core.specs.Facts.Grammars.{AreDer-append}
 use Rattle.der_core.specs.Refusals.{IsFirstUnwritable, RefusesInner}
 use Rattle.der_core.specs.Writing.{RefusesToWrite}

@@ -7,7 +7,7 @@ use Rattle.der_core.specs.DerElement.{DerElement, Constructed, row}
 use Rattle.der_core.proofs.Parts.{refuses_as, same_kids}
 use Rattle.der_core.specs.Each.{AreEach, AreWritten, IsListOf}
 use Rattle.der_core.proofs.SoFar.{AreFirst, AreFirstWritten}
-use Rattle.der_core.specs.Placed.{AreDer}
+use Rattle.der_core.specs.Borrowed.{AreDer}
 use Rattle.der_core.specs.Refusals.{RefusesInner, RefusesShape}
 use Rattle.der_core.specs.Structure.{Fits}
 use Rattle.der_core.specs.Facts.Grammars.{AreDer-append}

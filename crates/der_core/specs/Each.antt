@@ -2,7 +2,7 @@
 use Rattle.std.specs.Prelude.{◌≡◌, ⊤, ℕ, List, [], ◌∷◌, map, flat_map}
 use Rattle.der_core.specs.DerElement.{DerElement, Constructed, row}
 use Rattle.der_core.specs.Encoding.{IsWellFormed}
-use Rattle.der_core.specs.Placed.{AreDer}
+use Rattle.der_core.specs.Borrowed.{AreDer}
 
 -- the element is the one that is written for the value
 abbrev pub Prints : {X : Type 0} → (X → DerElement) → DerElement → X → Type 0

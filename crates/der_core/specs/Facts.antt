@@ -6,13 +6,13 @@ pub mod TreeFalls
 pub mod Fronts
 pub mod InnerFault
 pub mod InBounds
-pub mod Kept
-pub mod Placed
+pub mod Owned
+pub mod Borrowed
 pub mod Cursor
 pub mod Grammars
 pub mod Equality
 pub mod Lists
-pub mod Lent
+pub mod BorrowedOption
 pub mod Fields
 pub mod OctetStrings
 pub mod Optional

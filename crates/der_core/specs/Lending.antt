@@ -1,7 +1,7 @@
 -- Elements that are borrowed one after another.
 use Rattle.std.specs.Prelude.{◌≡◌, [], Option, Some, None}
 use Rattle.der_core.specs.DerElement.{DerElement}
-use Rattle.der_core.specs.Placed.{contents_octets}
+use Rattle.der_core.specs.Borrowed.{contents_octets}
 use Rattle.der_core.specs.declared.cursor.Cursor.{Cursor}
 
 -- The cursor is before the elements in the element, whose octets were tested.

@@ -12,8 +12,8 @@ pub mod Reading
 pub mod ErrorText
 pub mod Writing
 pub mod Size
-pub mod Kept
-pub mod Placed
+pub mod Owned
+pub mod Borrowed
 pub mod Cursor
 pub mod Elements
 pub mod Structure
@@ -21,7 +21,7 @@ pub mod Refusals
 pub mod Default
 pub mod Optional
 pub mod Each
-pub mod Lent
+pub mod BorrowedOption
 pub mod Lending
 pub mod Equality
 pub mod Rules

@@ -5,7 +5,7 @@ use Rattle.der_core.specs.Causes.{NoFault, Refuses}
 use Rattle.der_core.specs.Writing.{RefusesToWrite}
 use Rattle.der_core.specs.Reading.{IsExactFault}
 use Rattle.der_core.specs.Structure.{SpellsNone}
-use Rattle.der_core.specs.Placed.{AreDer}
+use Rattle.der_core.specs.Borrowed.{AreDer}
 use Rattle.der_core.specs.declared.error.DerError.{DerError}
 use Rattle.der_core.specs.declared.error.DerError.TheVariants as errors
 

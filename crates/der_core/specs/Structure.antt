@@ -2,7 +2,7 @@
 use Rattle.std.specs.Prelude.{◌≡◌, ◌≢◌, ⊤, ℕ, List, [], ◌∷◌}
 use Rattle.der_core.specs.DerElement.{DerElement, tag_of}
 use Rattle.der_core.specs.Encoding.{encoding, IsDer, IsWellFormed}
-use Rattle.der_core.specs.Placed.{AreDer}
+use Rattle.der_core.specs.Borrowed.{AreDer}
 
 -- The element, or the elements, encode a value.
 abbrev pub Fits : {E X : Type 0} → (E → X → Type 0) → E → Type 0

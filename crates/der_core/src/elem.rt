@@ -1,7 +1,7 @@
 //! Borrowed elements.
 
-ghost use Rattle.der_core.specs.Placed.{HasElem};
-ghost use Rattle.der_core.specs.Facts.Placed.{HasElem-prop};
+ghost use Rattle.der_core.specs.Borrowed.{HasElem};
+ghost use Rattle.der_core.specs.Facts.Borrowed.{HasElem-prop};
 
 /// A borrowed element within limits: its identifier octet, all of its octets, and its contents
 /// octets (X.690 8.1.1).

@@ -3,12 +3,12 @@
 ghost use Rattle.std.specs.Prelude.{◌≡◌, ◌≢◌, ◌↔◌, IsTrue, [], ◌∷◌, Some, None, MatchOption};
 ghost use Rattle.der_core.specs.DerElement.{DerElement, DerElements, Primitive, Constructed, row, tag_of, kids_of};
 ghost use Rattle.der_core.specs.Encoding.{form_bit};
-ghost use Rattle.der_core.specs.Lent.{at_option};
+ghost use Rattle.der_core.specs.BorrowedOption.{at_option};
 ghost use Rattle.der_core.specs.Optional.{TakesExplicit, HasBadTagging};
 ghost use Rattle.der_core.specs.Default.{HasBadFlag, TakesDefault};
 ghost use Rattle.der_core.specs.Structure.{Fits, BeginsOtherwise, BeginsUnfit, HasMore};
-ghost use Rattle.der_core.specs.Placed.{HasElems};
-ghost use Rattle.der_core.specs.Facts.Placed.{HasElems-prop};
+ghost use Rattle.der_core.specs.Borrowed.{HasElems};
+ghost use Rattle.der_core.specs.Facts.Borrowed.{HasElems-prop};
 
 use crate::elem::Elem;
 use crate::header::{is_constructed, known_head};

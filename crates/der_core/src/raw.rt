@@ -5,8 +5,8 @@ ghost use Rattle.der_core.specs.DerElement.{tag_of};
 ghost use Rattle.der_core.specs.Encoding.{encoding, nesting, IsWellFormed, IsDer, most_levels};
 ghost use Rattle.der_core.specs.Equality.{same_octets};
 ghost use Rattle.der_core.specs.Facts.Equality.{same_octets_per, same_octets_equiv};
-ghost use Rattle.der_core.specs.Kept.{Kept, IsKept};
-ghost use Rattle.der_core.specs.Facts.Kept.{Kept-prop};
+ghost use Rattle.der_core.specs.Owned.{Kept, IsKept};
+ghost use Rattle.der_core.specs.Facts.Owned.{Kept-prop};
 ghost use Rattle.der_core.specs.Writing.{RefusesToWrite};
 ghost use Rattle.der_core.specs.declared.error.DerError.TheVariants as errors;
 
@@ -28,8 +28,8 @@ pub struct Raw {
 }
 
 impl Model for Raw {
-    ghost use Rattle.der_core.specs.Kept.{KeptElement};
-    ghost use Rattle.der_core.specs.Facts.Kept.{coded_kept};
+    ghost use Rattle.der_core.specs.Owned.{KeptElement};
+    ghost use Rattle.der_core.specs.Facts.Owned.{coded_kept};
 
     ghost Value = { KeptElement };
 
@@ -114,7 +114,7 @@ impl Raw {
 
 /// Any element, as its raw octets.
 impl Structure for Raw {
-    ghost use Rattle.der_core.specs.Facts.Kept.{same_kept};
+    ghost use Rattle.der_core.specs.Facts.Owned.{same_kept};
     ghost use Rattle.der_core.specs.Facts.Grammars.{printed};
 
     ghost written = { λ raw. raw.element };

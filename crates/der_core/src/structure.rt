@@ -3,7 +3,7 @@
 ghost use Rattle.std.specs.Prelude.{◌≡◌, ◌∷◌, ◌++◌, [], ℕ, List, false, IsTrue, IfOk, IfErr, Ok, Err, MatchResult};
 ghost use Rattle.der_core.specs.DerElement.{DerElement};
 ghost use Rattle.der_core.specs.Encoding.{encoding, IsDer, IsWellFormed};
-ghost use Rattle.der_core.specs.Placed.{AreDer};
+ghost use Rattle.der_core.specs.Borrowed.{AreDer};
 ghost use Rattle.der_core.specs.Reading.{IsExactFault};
 ghost use Rattle.der_core.specs.Refusals.{RefusesShape, RefusesOctets, RefusesInner};
 ghost use Rattle.der_core.specs.Structure.{Fits, IsWithin, IsGrammar};

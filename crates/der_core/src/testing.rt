@@ -4,7 +4,7 @@ ghost use Rattle.std.specs.Prelude.{◌≡◌, ◌+◌, ◌-◌, ◌^◌, ◌<�
 ghost use Rattle.der_core.specs.DerElement.{DerElement};
 ghost use Rattle.der_core.specs.Encoding.{encoding, IsDer, IsDerWithin, most_levels};
 ghost use Rattle.der_core.specs.Fault.{IsFirstFault};
-ghost use Rattle.der_core.specs.Kept.{IsKept};
+ghost use Rattle.der_core.specs.Owned.{IsKept};
 ghost use Rattle.der_core.specs.Facts.InnerFault.{ElementFault, KidsFault};
 ghost use Rattle.der_core.specs.Reading.{HasElementsWithin, IsFirst, IsExactFault, IsFaultFrom};
 

@@ -1,5 +1,5 @@
 mod Lines
 pub mod Pools
 pub mod Calls
-pub mod LentCalls
+pub mod BorrowedCalls
 mod TableHandleSteps

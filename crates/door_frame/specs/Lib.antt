@@ -2,6 +2,6 @@ pub mod Words
 pub mod Call
 pub mod Files
 pub mod Pool
-pub mod Lent
+pub mod Borrowed
 pub mod Handing
 pub mod Handle

@@ -3,18 +3,18 @@
 //! table that the caller keeps between calls.
 #![tactic(auto)]
 
+mod borrowed_shelf;
 mod calling;
 mod files;
 mod handing;
-mod lent;
 mod pool;
 mod table_handle;
 mod words;
 
+pub use borrowed_shelf::LentShelf;
 pub use calling::call;
 pub use files::{LentFile, borrowed};
 pub use handing::{HandedOut, hand_out};
-pub use lent::LentShelf;
 pub use pool::{append_pool, pooled};
 pub use table_handle::TableHandle;
 pub use words::words_of;

@@ -5,15 +5,15 @@ use Rattle.std.specs.Option.{option_eq}
 use Rattle.std.proofs.lemmas.Slice.Eq.{bytes_eq-Decides}
 use Rattle.der_core.specs.DerElement.{DerElement}
 use Rattle.der_core.specs.Encoding.{encoding}
-use Rattle.der_core.specs.Kept.{KeptElement}
-use Rattle.der_core.specs.Lent.{at_option}
+use Rattle.der_core.specs.Owned.{KeptElement}
+use Rattle.der_core.specs.BorrowedOption.{at_option}
 use Rattle.der_core.specs.declared.elem.Elem.{Elem}
 use Rattle.extension_types.specs.AuthorityIssuer.{HasIssuerTag}
 use Rattle.extension_types.specs.AuthorityKeyIdentifier.{authority_key_of, authority_key_identifier, IsAuthorityKeyOf}
 use Rattle.extension_types.specs.Facts.AuthorityKeys.{same_authority}
 use Rattle.extension_types.specs.declared.authority_key_identifier.AuthorityKeyIdentifier.{AuthorityKeyIdentifier}
 use Rattle.der_core.specs.Facts.Equality.{kept_same, options_same}
-use Rattle.der_core.specs.Facts.Lent.{keep_option}
+use Rattle.der_core.specs.Facts.BorrowedOption.{keep_option}
 
 pub of_fields : (t : DerElement) (key serial : Option (List ℕ)) (issuer : Option Elem) → IsAuthorityKeyOf t key (at_option issuer) serial
     → (a : AuthorityKeyIdentifier) × (t ≡ authority_key_identifier a)

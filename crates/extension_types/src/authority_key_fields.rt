@@ -3,7 +3,7 @@
 ghost use Rattle.std.specs.Prelude.{List, ℕ, Option, MatchOption};
 ghost use Rattle.std.specs.Option.{option_copied};
 ghost use Rattle.der_core.specs.DerElement.{DerElement};
-ghost use Rattle.der_core.specs.Lent.{at_option};
+ghost use Rattle.der_core.specs.BorrowedOption.{at_option};
 ghost use Rattle.extension_types.specs.AuthorityKeyIdentifier.{IsAuthorityKeyOf};
 
 use der_core::tag::SEQUENCE;

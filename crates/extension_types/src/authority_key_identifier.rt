@@ -2,7 +2,7 @@
 
 ghost use Rattle.std.specs.Prelude.{◌≡◌, ◌↔◌, IfOk, IsTrue};
 ghost use Rattle.std.specs.Option.{option_copied};
-ghost use Rattle.der_core.specs.Lent.{at_option, kept_option};
+ghost use Rattle.der_core.specs.BorrowedOption.{at_option, kept_option};
 ghost use Rattle.extension_types.specs.AuthorityIssuer.{HasIssuerTag};
 ghost use Rattle.extension_types.specs.Facts.Issuers.{HasIssuerTag-prop};
 

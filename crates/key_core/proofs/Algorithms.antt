@@ -3,8 +3,8 @@ use Rattle.std.proofs.Common.{◌≡◌, ◌≢◌, IsTrue, ℕ, List, ◌∷◌
 use Rattle.std.specs.Prelude.{option_to_list, MatchOption}
 use Rattle.der_core.specs.DerElement.{DerElement, Primitive, Constructed}
 use Rattle.der_core.specs.Elements.{sequence}
-use Rattle.der_core.specs.Kept.{KeptElement}
-use Rattle.der_core.specs.Lent.{kept_option}
+use Rattle.der_core.specs.Owned.{KeptElement}
+use Rattle.der_core.specs.BorrowedOption.{kept_option}
 use Rattle.der_core.specs.Facts.Grammars.{same_fields}
 use Rattle.der_core.specs.Structure.{Fits}
 use Rattle.asn1_types.specs.Elements.{object_identifier}

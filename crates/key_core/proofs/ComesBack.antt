@@ -2,8 +2,8 @@
 use Rattle.std.proofs.Common.{◌≡◌, ℕ, List, Option, Some, None, refl, sym, ap, subst, ◌∙◌, inl, inr}
 use Rattle.der_core.specs.DerElement.{DerElement}
 use Rattle.der_core.specs.Encoding.{encoding, IsDer}
-use Rattle.der_core.specs.Lent.{kept_option}
-use Rattle.der_core.specs.Placed.{AreDer}
+use Rattle.der_core.specs.BorrowedOption.{kept_option}
+use Rattle.der_core.specs.Borrowed.{AreDer}
 use Rattle.der_core.specs.Refusals.{RefusesOctets}
 use Rattle.der_core.specs.Facts.Fronts.{formed_encoding_once}
 use Rattle.der_core.specs.declared.error.DerError.TheVariants as der
@@ -35,7 +35,7 @@ use Rattle.key_core.specs.declared.private_key.PrivateKey.{PrivateKey}
 use Rattle.key_core.specs.declared.private_key_info.PrivateKeyInfo.{PrivateKeyInfo}
 use Rattle.key_core.specs.declared.private_key_value.PrivateKeyValue.{PrivateKeyValue}
 use Rattle.key_core.specs.declared.private_key_value.PrivateKeyValue.TheVariants as values
-use Rattle.key_core.proofs.KeptKeys.{one_curve, one_algorithm}
+use Rattle.key_core.proofs.OwnedKeys.{one_curve, one_algorithm}
 
 -- octets that encode a value are read, or memory runs out
 pub unread_for_memory : {X : Type 0} (spells : DerElement → X → Type 0) (octets : List ℕ) (element : DerElement) (value : X) → IsDer element

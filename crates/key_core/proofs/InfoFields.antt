@@ -3,8 +3,8 @@ use Rattle.std.proofs.Common.{◌≡◌, ℕ, List, Option, Some, sym, ap, subst
 use Rattle.std.specs.Option.{option_map}
 use Rattle.der_core.specs.DerElement.{DerElement}
 use Rattle.der_core.specs.Encoding.{encoding}
-use Rattle.der_core.specs.Lent.{at_option, kept_option}
-use Rattle.der_core.specs.Facts.Lent.{keep_option}
+use Rattle.der_core.specs.BorrowedOption.{at_option, kept_option}
+use Rattle.der_core.specs.Facts.BorrowedOption.{keep_option}
 use Rattle.der_core.specs.declared.elem.Elem.{Elem}
 use Rattle.asn1_types.specs.BitString.{HasBitString}
 use Rattle.asn1_types.specs.Values.{bit_string_contents}

@@ -3,7 +3,7 @@ pub mod Within
 pub mod InfoFields
 pub mod Curves
 pub mod Pkcs1Keys
-pub mod KeptKeys
+pub mod OwnedKeys
 pub mod Pkcs8Keys
 pub mod Refusing
 pub mod SignatureIdentifiers

@@ -11,7 +11,7 @@ use Rattle.key_core.specs.declared.private_key.PrivateKey.{PrivateKey}
 use Rattle.key_core.specs.declared.private_key_info.PrivateKeyInfo.{PrivateKeyInfo}
 use Rattle.key_core.specs.declared.private_key_value.PrivateKeyValue.{PrivateKeyValue}
 use Rattle.key_core.specs.declared.private_key_value.PrivateKeyValue.TheVariants as values
-use Rattle.key_core.proofs.KeptKeys.{one_kept, kept_again}
+use Rattle.key_core.proofs.OwnedKeys.{one_kept, kept_again}
 
 pub comes_again : (derives : Derivation) (octets : List ℕ) (key again : PrivateKey) → KeepsItself derives key → octets ≡ encoding (private_key_info key.info)
     → IsPkcs8Key derives octets again → again ≡ key

@@ -7,7 +7,7 @@ use Rattle.der_core.specs.DerElement.{DerElement}
 use Rattle.der_core.specs.Elements.{bit_octets, sequence}
 use Rattle.der_core.specs.Encoding.{encoding, IsDer}
 use Rattle.der_core.specs.Facts.Fronts.{formed_encoding_once}
-use Rattle.der_core.specs.Lent.{kept_option}
+use Rattle.der_core.specs.BorrowedOption.{kept_option}
 use Rattle.der_core.proofs.Sizes.{light_short}
 use Rattle.asn1_types.specs.Elements.{object_identifier_of}
 use Rattle.asn1_types.specs.Values.{integer_contents}

@@ -1,7 +1,7 @@
 -- How the fields of a PrivateKeyInfo must agree.
 use Rattle.std.specs.Prelude.{Option}
-use Rattle.der_core.specs.Kept.{KeptElement}
-use Rattle.der_core.specs.Lent.{kept_option}
+use Rattle.der_core.specs.Owned.{KeptElement}
+use Rattle.der_core.specs.BorrowedOption.{kept_option}
 use Rattle.key_types.specs.declared.algorithm.AlgorithmIdentifier.{AlgorithmIdentifier}
 use Rattle.key_core.specs.KeyAlgorithm.{Names}
 use Rattle.key_core.specs.PrivateKeyValue.{private_kind}

@@ -1,7 +1,7 @@
 -- Public keys from components.
 use Rattle.std.specs.Prelude.{◌≡◌, ⊤, ℕ, List, ◌∷◌, ◌++◌, length, Some, None, IsTrue}
 use Rattle.der_core.specs.Elements.{null}
-use Rattle.der_core.specs.Lent.{kept_option}
+use Rattle.der_core.specs.BorrowedOption.{kept_option}
 use Rattle.asn1_types.specs.Elements.{object_identifier}
 use Rattle.asn1_types.specs.Integer.{IsUnsignedInteger, number_of}
 use Rattle.asn1_types.specs.Values.{identifier_contents, integer_contents, payload_of, unused_of}

@@ -1,7 +1,7 @@
 -- Private keys by the encoding of a PrivateKeyInfo.
 use Rattle.std.specs.Prelude.{◌≡◌, ◌≢◌, ◌⊎◌, ℕ, List, Option, Some, None}
 use Rattle.der_core.specs.DerElement.{DerElement}
-use Rattle.der_core.specs.Lent.{kept_option}
+use Rattle.der_core.specs.BorrowedOption.{kept_option}
 use Rattle.der_core.specs.Refusals.{RefusesOctets}
 use Rattle.der_core.specs.Structure.{IsWithin}
 use Rattle.asn1_types.specs.Elements.{object_identifier}

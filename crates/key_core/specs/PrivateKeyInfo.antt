@@ -3,8 +3,8 @@ use Rattle.std.specs.Prelude.{◌≡◌, List, [], ◌∷◌}
 use Rattle.std.specs.Option.{option_map}
 use Rattle.der_core.specs.DerElement.{DerElement}
 use Rattle.der_core.specs.Encoding.{encoding}
-use Rattle.der_core.specs.Lent.{kept_option}
-use Rattle.der_core.specs.Placed.{AreDer}
+use Rattle.der_core.specs.BorrowedOption.{kept_option}
+use Rattle.der_core.specs.Borrowed.{AreDer}
 use Rattle.asn1_types.specs.Values.{bit_string_contents}
 use Rattle.key_types.specs.AlgorithmIdentifier.{algorithm_identifier}
 use Rattle.key_core.specs.PrivateKeyVersion.{key_version}

@@ -1,7 +1,7 @@
 -- When a scheme accepts a signature by a key, and why it doesn't.
 use Rattle.std.specs.Prelude.{◌≡◌, ◌≢◌, ℕ, List, [], ◌∷◌, ◌++◌, length, Some, None, Result, Err, MatchResult}
 use Rattle.asn1_types.specs.Elements.{object_identifier_of}
-use Rattle.der_core.specs.Lent.{kept_option}
+use Rattle.der_core.specs.BorrowedOption.{kept_option}
 use Rattle.der_core.specs.Rules.{Rule, IsFirstBroken}
 use Rattle.der_core.specs.declared.error.DerError.{DerError}
 use Rattle.asn1_types.specs.Values.{identifier_contents, payload_of}

@@ -2,7 +2,7 @@
 
 ghost use Rattle.std.specs.Prelude.{◌≡◌, Some};
 ghost use Rattle.asn1_types.specs.Elements.{object_identifier_of};
-ghost use Rattle.der_core.specs.Lent.{kept_option};
+ghost use Rattle.der_core.specs.BorrowedOption.{kept_option};
 ghost use Rattle.asn1_types.specs.ObjectIdentifier.{IsIdentifier};
 ghost use Rattle.asn1_types.specs.Values.{lent_contents};
 ghost use Rattle.key_types.specs.AlgorithmIdentifier.{parameters_of};

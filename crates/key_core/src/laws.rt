@@ -5,7 +5,7 @@ ghost use Rattle.key_core.specs.EcCurve.{curve_identifier};
 ghost use Rattle.key_core.specs.EdAlgorithm.{ed_identifier};
 ghost use Rattle.asn1_types.specs.declared.oid.ObjectIdentifier.{ObjectIdentifier};
 ghost use Rattle.der_core.specs.Encoding.{encoding, IsDer};
-ghost use Rattle.der_core.specs.Placed.{AreDer};
+ghost use Rattle.der_core.specs.Borrowed.{AreDer};
 ghost use Rattle.der_core.specs.Refusals.{RefusesOctets};
 ghost use Rattle.der_core.specs.Structure.{IsWithin};
 ghost use Rattle.key_core.specs.CurveKeys.{IsSec1Key, IsSec1KeyOn, IsSec1KeyOnKnown};

@@ -2,8 +2,8 @@
 
 ghost use Rattle.std.specs.Prelude.{◌≡◌, ◌↔◌, ◌∷◌, ◌++◌, [], IfOk, IsTrue, MatchResult};
 ghost use Rattle.der_core.specs.Encoding.{encoding, IsDer};
-ghost use Rattle.der_core.specs.Lent.{kept_option};
-ghost use Rattle.der_core.specs.Placed.{AreDer};
+ghost use Rattle.der_core.specs.BorrowedOption.{kept_option};
+ghost use Rattle.der_core.specs.Borrowed.{AreDer};
 ghost use Rattle.der_core.specs.Refusals.{RefusesInner};
 ghost use Rattle.key_types.specs.AlgorithmIdentifier.{parameters_of};
 ghost use Rattle.key_core.specs.CurveParameters.{HasCurve};

@@ -3,7 +3,7 @@
 ghost use Rattle.std.specs.Prelude.{◌≡◌, ◌≢◌, false, ℕ, List, Option, IsTrue, MatchOption, MatchResult};
 ghost use Rattle.std.specs.Option.{option_copied};
 ghost use Rattle.der_core.specs.DerElement.{DerElement};
-ghost use Rattle.der_core.specs.Lent.{at_option};
+ghost use Rattle.der_core.specs.BorrowedOption.{at_option};
 ghost use Rattle.key_core.specs.PrivateKeyVersion.{key_version};
 ghost use Rattle.key_core.specs.PrivateKeyFields.{HaveTag, private_key_info_of};
 ghost use Rattle.key_core.specs.declared.private_key_version.PrivateKeyVersion.{PrivateKeyVersion};

@@ -3,7 +3,7 @@
 ghost use Rattle.std.specs.Prelude.{◌≡◌, ◌≢◌, ◌∷◌, ◌++◌, [], ◌↔◌, false, Option, IfOk, IsTrue, MatchOption, MatchResult, option_to_list};
 ghost use Rattle.std.specs.Option.{option_copied, option_map};
 ghost use Rattle.der_core.specs.Elements.{octet_string, optional_leaf};
-ghost use Rattle.der_core.specs.Lent.{at_option, kept_option};
+ghost use Rattle.der_core.specs.BorrowedOption.{at_option, kept_option};
 ghost use Rattle.key_core.specs.PrivateKeyFields.{HaveTag};
 ghost use Rattle.der_core.specs.Encoding.{encoding, IsDer, IsWellFormed};
 ghost use Rattle.der_core.specs.Refusals.{RefusesShape, RefusesInner};

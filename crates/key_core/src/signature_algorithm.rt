@@ -1,7 +1,7 @@
 //! Signature algorithms and their OIDs.
 
 ghost use Rattle.std.specs.Prelude.{◌≡◌, ◌↔◌, Some, None, Ok, Err, IsTrue, IfOk, IfSome, MatchOption, MatchResult};
-ghost use Rattle.der_core.specs.Lent.{kept_option};
+ghost use Rattle.der_core.specs.BorrowedOption.{kept_option};
 ghost use Rattle.key_types.specs.AlgorithmIdentifier.{oid_of, parameters_of};
 ghost use Rattle.key_core.specs.SignatureAlgorithm.{signature_identifier, signature_parameters, signature_hash, NamesSignature, IsWrittenAlgorithm, IsUnnamed, IsUnwritable};
 ghost use Rattle.key_core.specs.declared.signature_algorithm.SignatureAlgorithm.TheVariants.{RsaPkcs1v15, Ecdsa};

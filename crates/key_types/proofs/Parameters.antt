@@ -8,7 +8,7 @@ use Rattle.asn1_types.specs.declared.oid.ObjectIdentifier.{ObjectIdentifier}
 use Rattle.der_core.specs.Elements.{null}
 use Rattle.asn1_types.specs.Elements.{object_identifier}
 use Rattle.std.specs.Prelude.{option_to_list}
-use Rattle.der_core.specs.Lent.{kept_option}
+use Rattle.der_core.specs.BorrowedOption.{kept_option}
 use Rattle.asn1_types.specs.Values.{identifier_contents}
 use Rattle.key_types.specs.AlgorithmIdentifier.{algorithm_of, algorithm_identifier}
 use Rattle.key_types.specs.KeyKind.{IsOid, IsAlgorithmWith, IsAlgorithmOf}

@@ -3,7 +3,7 @@ use Rattle.std.specs.Prelude.{◌≡◌, ℕ, List, Option, Some, None, ⊤, Boo
 use Rattle.der_core.specs.DerElement.{DerElement, Primitive, Constructed}
 use Rattle.asn1_types.specs.ObjectIdentifier.{IsIdentifier}
 use Rattle.der_core.specs.Elements.{null}
-use Rattle.der_core.specs.Lent.{kept_option}
+use Rattle.der_core.specs.BorrowedOption.{kept_option}
 use Rattle.asn1_types.specs.Values.{identifier_contents}
 use Rattle.key_types.specs.declared.algorithm.AlgorithmIdentifier.{AlgorithmIdentifier}
 use Rattle.asn1_types.specs.declared.oids.TheConstants.{RSA_ENCRYPTION, EC_PUBLIC_KEY, X25519, X448, ED25519, ED448, ML_DSA_44, ML_DSA_65, ML_DSA_87}

@@ -3,7 +3,7 @@
 use Rattle.std.specs.Prelude.{◌≡◌, ℕ, List, [], ◌∷◌}
 use Rattle.der_core.specs.DerElement.{DerElement}
 use Rattle.der_core.specs.Encoding.{encoding}
-use Rattle.der_core.specs.Placed.{AreDer}
+use Rattle.der_core.specs.Borrowed.{AreDer}
 use Rattle.der_core.specs.Elements.{sequence, bit_octets}
 use Rattle.asn1_types.specs.Elements.{bit_string}
 use Rattle.key_types.specs.AlgorithmIdentifier.{algorithm_identifier}

@@ -3,7 +3,7 @@
 ghost use Rattle.std.specs.Prelude.{◌≡◌, Some, IfOk, ◌↔◌, IsTrue};
 ghost use Rattle.std.specs.Option.{option_copied};
 ghost use Rattle.der_core.specs.Elements.{null};
-ghost use Rattle.der_core.specs.Lent.{kept_option};
+ghost use Rattle.der_core.specs.BorrowedOption.{kept_option};
 
 use crate::algorithm_fields::AlgorithmFields;
 use asn1_types::ObjectIdentifier;

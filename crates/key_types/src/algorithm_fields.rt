@@ -2,7 +2,7 @@
 
 ghost use Rattle.std.specs.Prelude.{◌≡◌, ◌≢◌, Option, MatchOption};
 ghost use Rattle.der_core.specs.DerElement.{DerElement};
-ghost use Rattle.der_core.specs.Lent.{at_option};
+ghost use Rattle.der_core.specs.BorrowedOption.{at_option};
 ghost use Rattle.key_types.specs.AlgorithmIdentifier.{algorithm_of};
 
 use der_core::tag::SEQUENCE;

@@ -2,7 +2,7 @@
 
 ghost use Rattle.std.specs.Prelude.{◌≡◌, ◌↔◌, IsTrue, MatchOption};
 ghost use Rattle.der_core.specs.Elements.{null};
-ghost use Rattle.der_core.specs.Lent.{at_option};
+ghost use Rattle.der_core.specs.BorrowedOption.{at_option};
 ghost use Rattle.key_types.specs.AlgorithmIdentifier.{algorithm_identifier};
 ghost use Rattle.key_types.specs.KeyKind.{names_kind, IsAlgorithmOf, IsAlgorithmWith, MayHave, IsOid};
 ghost use Rattle.key_types.specs.declared.algorithm.AlgorithmIdentifier.{AlgorithmIdentifier};

@@ -4,8 +4,8 @@ use Rattle.der_core.specs.DerElement.{DerElement, Primitive, Constructed, Nil, C
 use Rattle.der_core.specs.Elements.{explicit}
 use Rattle.der_core.specs.Encoding.{encoding, IsDer}
 use Rattle.der_core.specs.Head.{IsOctets}
-use Rattle.der_core.specs.Kept.{KeptElement}
-use Rattle.der_core.specs.Placed.{contents_octets}
+use Rattle.der_core.specs.Owned.{KeptElement}
+use Rattle.der_core.specs.Borrowed.{contents_octets}
 use Rattle.der_core.specs.Structure.{IsWithin, FitsWithin}
 use Rattle.der_core.proofs.Decided.{whole_or_not}
 use Rattle.der_core.proofs.DecidedValues.{IsSomeOrNone, in_form, leaf_or_not, branch_or_not, two_or_not, only_or_not, each_or_not}

@@ -4,7 +4,7 @@ use Rattle.std.proofs.lemmas.List.Elements.{All-head, All-tail, All-cons}
 use Rattle.std.proofs.lemmas.Bool.{cases_eq, cases_lt}
 use Rattle.der_core.specs.DerElement.{DerElement, Primitive, Constructed, tag_of}
 use Rattle.der_core.specs.Encoding.{form_bit, IsDer}
-use Rattle.der_core.specs.Placed.{IsElem}
+use Rattle.der_core.specs.Borrowed.{IsElem}
 use Rattle.asn1_types.specs.Elements.{ia5_string}
 use Rattle.asn1_types.specs.Ia5String.{IsIa5}
 use Rattle.asn1_types.specs.declared.ia5_string.Ia5String.{Ia5String}

@@ -1,6 +1,6 @@
 -- Values are the same if their parts are.
 use Rattle.std.proofs.Common.{◌≡◌, ◌↔◌, IsTrue, Bool, sym, ◌∙◌, ap}
-use Rattle.der_core.specs.Kept.{KeptElement}
+use Rattle.der_core.specs.Owned.{KeptElement}
 use Rattle.name_types.specs.Facts.Names.{same_other}
 use Rattle.name_types.specs.declared.other_value.OtherValue.{OtherValue}
 

@@ -2,7 +2,7 @@
 
 ghost use Rattle.std.specs.Prelude.{◌≡◌, ◌≢◌, ◌↔◌, IsTrue, Option, MatchOption};
 ghost use Rattle.der_core.specs.DerElement.{DerElement};
-ghost use Rattle.der_core.specs.Lent.{at_option};
+ghost use Rattle.der_core.specs.BorrowedOption.{at_option};
 ghost use Rattle.name_types.specs.GeneralName.{edi_party_name_of};
 
 use crate::directory_string::DirectoryString;

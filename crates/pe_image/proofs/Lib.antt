@@ -7,6 +7,6 @@ pub mod CheckExits
 pub mod AskedWords
 pub mod Reported
 pub mod GivenLists
-pub mod LentLists
+pub mod BorrowedLists
 pub mod ListAnswers
 pub mod Vouching

@@ -18,7 +18,7 @@ use Rattle.pe_image.specs.Report.{IsOutOfMemory, refused_line, reporting}
 use Rattle.pe_image.specs.declared.error.PeCheckError.{PeCheckError}
 use Rattle.authenticode_core.proofs.OctetsOfLists.{one_list}
 use Rattle.pe_image.proofs.GivenLists.{unread_for_memory, unread_line, wants}
-use Rattle.pe_image.proofs.LentLists.{program_under}
+use Rattle.pe_image.proofs.BorrowedLists.{program_under}
 use Rattle.program_frame.proofs.Reporting.{out_of_memory, reported_is, same_report}
 
 abbrev Answer : Type 0

@@ -2,10 +2,10 @@
 
 ghost use Rattle.std.specs.Prelude.{◌≡◌, ◌≤◌, Result, length, map};
 ghost use Rattle.authenticode_core.specs.declared.accepted.Accepted.{Accepted};
-ghost use Rattle.program_frame.specs.Held.{contents_held, options_held};
+ghost use Rattle.program_frame.specs.Owned.{contents_held, options_held};
 ghost use Rattle.program_frame.specs.Reports.{Reports};
 ghost use Rattle.pe_image.specs.Commands.{IsAnswerTo, checks};
-ghost use Rattle.pe_image.specs.HeldCommand.{command_held};
+ghost use Rattle.pe_image.specs.OwnedCommand.{command_held};
 ghost use Rattle.pe_image.specs.ListAnswer.{IsListAnswer, IsProgramAnswer};
 ghost use Rattle.pe_image.specs.ProgramPolicy.{program_policy};
 ghost use Rattle.pe_image.specs.Report.{reporting};

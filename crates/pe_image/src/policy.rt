@@ -1,7 +1,7 @@
 //! The policy of the program.
 
 ghost use Rattle.std.specs.Prelude.{◌≡◌, option_map};
-ghost use Rattle.program_frame.specs.Held.{list_held, options_held};
+ghost use Rattle.program_frame.specs.Owned.{list_held, options_held};
 ghost use Rattle.program_frame.specs.ListOption.{list_moment};
 ghost use Rattle.pe_image.specs.ProgramPolicy.{moments, program_policy};
 

@@ -17,7 +17,7 @@ use Rattle.picky_check.specs.Policies.{check_policy}
 use Rattle.picky_check.specs.Report.{Answer, OfSignature, OfChain, IsOutOfMemory, refused_line, reporting}
 use Rattle.authenticode_core.specs.ListOctets.{IsTrustList, IsUnreadList}
 use Rattle.picky_check.specs.SignatureAnswer.{IsListAnswer, IsListRefusal, IsSignatureAnswer}
-use Rattle.authenticode_core.proofs.LentLists.{answer_under}
+use Rattle.authenticode_core.proofs.BorrowedLists.{answer_under}
 use Rattle.authenticode_core.proofs.OctetsOfLists.{one_list, unread_for_memory}
 use Rattle.picky_check.proofs.GivenLists.{unread_line}
 

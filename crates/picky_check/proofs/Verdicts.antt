@@ -10,16 +10,16 @@ use Rattle.key_core.specs.declared.element.Element.TheVariants as elements
 use Rattle.x509_core.specs.CertRefusals.{unread}
 use Rattle.x509_core.specs.ErrorName.{cert_error_name}
 use Rattle.x509_core.specs.Chain.{IsAccepted, chain_rules}
-use Rattle.x509_core.specs.KeptCertificate.{KeptCertificate}
-use Rattle.x509_core.proofs.KeptOctets.{same_certificates, unread_for_memory}
+use Rattle.x509_core.specs.OwnedCertificate.{KeptCertificate}
+use Rattle.x509_core.proofs.OwnedOctets.{same_certificates, unread_for_memory}
 use Rattle.x509_core.specs.declared.error.CertError.{CertError}
 use Rattle.x509_core.specs.declared.error.CertError.TheVariants as cert
 use Rattle.x509_core.specs.declared.validator.ChainChecks.{ChainChecks}
 use Rattle.program_frame.specs.declared.report.Report.{Report}
 use Rattle.program_frame.specs.declared.stop.Stop.{Stop}
-use Rattle.picky_check.specs.Answer.{IsCertificateAnswer}
+use Rattle.picky_check.specs.Commands.{IsCertificateAnswer}
 use Rattle.picky_check.specs.ChainAnswer.{IsChainJudged, IsChainAnswer, all_checks}
-use Rattle.x509_core.specs.KeptCertificates.{AreKeptCertificates, IsFirstUnread}
+use Rattle.x509_core.specs.OwnedCertificates.{AreKeptCertificates, IsFirstUnread}
 use Rattle.picky_check.specs.Report.{Answer, OfSignature, OfChain, IsOutOfMemory, reporting}
 use Rattle.program_frame.specs.Reports.{IsReported, GivesReport, Reports}
 use Rattle.program_frame.proofs.Reporting.{reported_is, out_of_memory}

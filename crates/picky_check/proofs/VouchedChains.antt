@@ -6,8 +6,8 @@ use Rattle.sig_core.specs.VerdictTable.{IsTable, verdict_of}
 use Rattle.key_core.specs.Verifying.{Judge}
 use Rattle.x509_core.specs.CertType.{IsOfType}
 use Rattle.x509_core.specs.Chain.{IsLinkedChain, IsPath, last_of}
-use Rattle.x509_core.specs.KeptCertificate.{KeptCertificate}
-use Rattle.x509_core.specs.KeptCertificates.{AreKeptCertificates}
+use Rattle.x509_core.specs.OwnedCertificate.{KeptCertificate}
+use Rattle.x509_core.specs.OwnedCertificates.{AreKeptCertificates}
 use Rattle.x509_core.specs.declared.cert_type.CertType.TheVariants as types
 use Rattle.picky_check.specs.ChainAnswer.{IsChainAnswer, IsChainJudged, all_checks}
 use Rattle.picky_check.specs.ChainHeadline.{IsVouchedChain, window_at}

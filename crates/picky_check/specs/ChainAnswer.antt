@@ -5,8 +5,8 @@ use Rattle.asn1_types.specs.declared.generalized_time.GeneralizedTime.{Generaliz
 use Rattle.key_core.specs.Verifying.{Judge}
 use Rattle.x509_core.specs.Chain.{IsAccepted, chain_rules}
 use Rattle.x509_core.specs.Checks.{checks_at, first_checks}
-use Rattle.x509_core.specs.KeptCertificate.{KeptCertificate}
-use Rattle.x509_core.specs.KeptCertificates.{AreKeptCertificates, IsFirstUnread}
+use Rattle.x509_core.specs.OwnedCertificate.{KeptCertificate}
+use Rattle.x509_core.specs.OwnedCertificates.{AreKeptCertificates, IsFirstUnread}
 use Rattle.x509_core.specs.Rules.{RefusesCertBy}
 use Rattle.x509_core.specs.declared.error.CertError.{CertError}
 use Rattle.x509_core.specs.declared.validator.ChainChecks.{ChainChecks}

@@ -5,12 +5,12 @@ use Rattle.sig_core.specs.declared.verdict_row.VerdictRow.{VerdictRow}
 use Rattle.sig_core.specs.VerdictTable.{IsTable, verdict_of}
 use Rattle.x509_core.specs.CertType.{IsOfType}
 use Rattle.x509_core.specs.Chain.{IsLinkedChain, last_of}
-use Rattle.x509_core.specs.KeptCertificate.{KeptCertificate}
+use Rattle.x509_core.specs.OwnedCertificate.{KeptCertificate}
 use Rattle.x509_core.specs.Window.{IsWithinWindow}
 use Rattle.x509_core.specs.declared.cert_type.CertType.TheVariants as types
 use Rattle.x509_core.specs.declared.window.DateCheck.TheVariants as dates
 use Rattle.x509_core.specs.declared.window.Window.{Window}
-use Rattle.x509_core.specs.KeptCertificates.{AreKeptCertificates}
+use Rattle.x509_core.specs.OwnedCertificates.{AreKeptCertificates}
 use Rattle.program_frame.specs.Limits.{IsWholeFile, AreWholeFiles}
 use Rattle.picky_check.specs.Report.{parents_line}
 use Rattle.program_frame.specs.ReadFiles.{HandsOut, total_length}

@@ -1,10 +1,10 @@
 //! The report about the files that the words name.
 
 ghost use Rattle.std.specs.Prelude.{◌≡◌, ◌≤◌, length, map};
-ghost use Rattle.program_frame.specs.Held.{contents_held, options_held};
+ghost use Rattle.program_frame.specs.Owned.{contents_held, options_held};
 ghost use Rattle.program_frame.specs.Reports.{Reports};
-ghost use Rattle.picky_check.specs.Answer.{IsAnswerTo, IsCertificateAnswer, checks};
-ghost use Rattle.picky_check.specs.HeldCommand.{command_held};
+ghost use Rattle.picky_check.specs.Commands.{IsAnswerTo, IsCertificateAnswer, checks};
+ghost use Rattle.picky_check.specs.OwnedCommand.{command_held};
 ghost use Rattle.picky_check.specs.Policies.{check_policy};
 ghost use Rattle.picky_check.specs.Report.{Answer, reporting};
 ghost use Rattle.picky_check.specs.SignatureAnswer.{IsListAnswer, IsSignatureAnswer};

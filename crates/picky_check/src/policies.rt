@@ -1,7 +1,7 @@
 //! The policies of the commands for a signature file.
 
 ghost use Rattle.std.specs.Prelude.{◌≡◌, IfOk, option_map};
-ghost use Rattle.program_frame.specs.Held.{list_held, options_held};
+ghost use Rattle.program_frame.specs.Owned.{list_held, options_held};
 ghost use Rattle.program_frame.specs.ListOption.{list_moment};
 ghost use Rattle.picky_check.specs.Policies.{basic_policy, check_policy, moments};
 

@@ -15,7 +15,7 @@ pub mod DateWord
 pub mod SecondsWord
 pub mod ListOption
 pub mod Options
-pub mod Held
+pub mod Owned
 pub mod KnownTable
 pub mod Commands
 pub mod Answering

@@ -3,7 +3,7 @@
 ghost use Rattle.std.specs.Prelude.{◌≡◌, ℕ, List, length};
 ghost use Rattle.program_frame.specs.Answering.{IsAnswering, IsReport};
 ghost use Rattle.program_frame.specs.Commands.{IsParsed, Program, parsed_held};
-ghost use Rattle.program_frame.specs.Held.{contents_held, names_held};
+ghost use Rattle.program_frame.specs.Owned.{contents_held, names_held};
 ghost use Rattle.program_frame.specs.Run.{IsRun};
 
 use crate::files::read_files;

@@ -2,7 +2,7 @@
 
 ghost use Rattle.std.specs.Prelude.{◌≡◌, ◌+◌, ◌≤◌, ◌∷◌, ◌++◌, ℕ, List, [], Err, length, map, IfOk, IfErr, OnOk, OnErr, IsOk, IsErr, IsSome, IsErrOf, MatchOption, MatchResult};
 ghost use Rattle.der_core.specs.Counts.{GoesOn, HasRisen, FailsOnce};
-ghost use Rattle.program_frame.specs.Held.{contents_held, names_held};
+ghost use Rattle.program_frame.specs.Owned.{contents_held, names_held};
 ghost use Rattle.program_frame.specs.Limits.{longest_file, IsWholeFile, IsLongFile, IsMissingFile};
 ghost use Rattle.program_frame.specs.Shelf.{file_of};
 ghost use Rattle.program_frame.specs.Sink.{Appends, Lowers, HasRoom, IsCutShort, KeepsCapacity};

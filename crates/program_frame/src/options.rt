@@ -2,7 +2,7 @@
 
 ghost use Rattle.std.specs.Prelude.{◌≡◌, ◌≤◌, ◌∷◌, codes, ℕ, List, length, map, option_map, string_bytes, Some, IfSome, MatchOption};
 ghost use Rattle.program_frame.specs.ListOption.{list_files};
-ghost use Rattle.program_frame.specs.Held.{last_held, option_held, options_held};
+ghost use Rattle.program_frame.specs.Owned.{last_held, option_held, options_held};
 ghost use Rattle.program_frame.specs.Options.{AreOptions, BeginsWithOption, CheckOption as OptionOfCheck, CheckOptions as OptionsOfCheck, IsAbsent, with_option};
 
 use crate::dates::date_of;

@@ -3,7 +3,7 @@
 ghost use Rattle.std.specs.Prelude.{◌≡◌, ◌≤◌, ℕ, List, IfOk, length};
 ghost use Rattle.sig_core.specs.VerdictTable.{verdict_of};
 ghost use Rattle.program_frame.specs.Commands.{IsParsed, parsed_held};
-ghost use Rattle.program_frame.specs.Held.{contents_held, names_held};
+ghost use Rattle.program_frame.specs.Owned.{contents_held, names_held};
 ghost use Rattle.program_frame.specs.Reports.{Reports};
 ghost use Rattle.program_frame.specs.Run.{IsRun};
 ghost use Rattle.program_frame.specs.Statuses as statuses;

@@ -6,7 +6,7 @@ use Rattle.key_core.specs.Verifying.{Judge, Accepts}
 use Rattle.key_core.specs.declared.signature_algorithm.SignatureAlgorithm.{SignatureAlgorithm}
 use Rattle.key_types.specs.declared.key_info.SubjectPublicKeyInfo.{SubjectPublicKeyInfo}
 use Rattle.x509_core.specs.Chain.{IsLinkedChain}
-use Rattle.x509_core.specs.KeptCertificate.{KeptCertificate}
+use Rattle.x509_core.specs.OwnedCertificate.{KeptCertificate}
 use Rattle.x509_core.specs.Link.{IsSignedBy}
 use Rattle.x509_core.specs.declared.window.Window.{Window}
 use Rattle.x509_types.specs.CertificateElements.{CertificateElements}

@@ -10,7 +10,7 @@ use Rattle.key_core.specs.declared.signature_algorithm.SignatureAlgorithm.TheVar
 use Rattle.key_types.specs.declared.key_info.SubjectPublicKeyInfo.{SubjectPublicKeyInfo}
 use Rattle.sig_core.specs.declared.scheme.Verdict.{Verdict}
 use Rattle.x509_core.specs.Chain.{last_of}
-use Rattle.x509_core.specs.KeptCertificate.{KeptCertificate}
+use Rattle.x509_core.specs.OwnedCertificate.{KeptCertificate}
 use Rattle.x509_core.specs.Link.{IsBadlySignedLink, IsReportedOf, link_rules, signed_octets}
 use Rattle.x509_core.specs.declared.error.CertCause.{CertCause}
 use Rattle.x509_core.specs.declared.error.CertError.{CertError}

@@ -6,7 +6,7 @@ use Rattle.std.proofs.lemmas.Bool.{false≢true}
 use Rattle.std.proofs.lemmas.Slice.Eq.{bytes_eq-Decides}
 use Rattle.program_frame.specs.Commands.{AsksForNothing}
 use Rattle.signature_questions.specs.Commands.{program}
-use Rattle.signature_questions.specs.HeldCommand.{command_held}
+use Rattle.signature_questions.specs.OwnedCommand.{command_held}
 use Rattle.signature_questions.specs.Words.{AreInLimits, AsksFor, Command, OfChain, OfSignature, chain_word}
 use Rattle.signature_questions.specs.declared.command.Command.{Command as HeldCommand}
 

@@ -5,9 +5,9 @@ use Rattle.asn1_types.specs.Values.{identifier_contents}
 use Rattle.der_core.specs.DerElement.{DerElement, Primitive}
 use Rattle.der_core.specs.Elements.{sequence}
 use Rattle.der_core.specs.Encoding.{encoding, IsDer}
-use Rattle.der_core.specs.Kept.{IsKept}
-use Rattle.der_core.specs.Lent.{kept_option}
-use Rattle.der_core.specs.Facts.Kept.{one_kept}
+use Rattle.der_core.specs.Owned.{IsKept}
+use Rattle.der_core.specs.BorrowedOption.{kept_option}
+use Rattle.der_core.specs.Facts.Owned.{one_kept}
 use Rattle.key_core.specs.SignatureAlgorithm.{NamesSignature, signature_identifier}
 use Rattle.key_core.specs.declared.signature_algorithm.SignatureAlgorithm.{SignatureAlgorithm}
 use Rattle.key_types.specs.AlgorithmIdentifier.{algorithm_identifier, oid_of, parameters_of}

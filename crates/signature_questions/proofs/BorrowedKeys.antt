@@ -4,8 +4,8 @@ use Rattle.asn1_types.specs.Elements.{object_identifier_of}
 use Rattle.asn1_types.specs.Values.{payload_of}
 use Rattle.asn1_types.specs.declared.bit_string.BitString.{BitString}
 use Rattle.der_core.specs.DerElement.{DerElement, Primitive}
-use Rattle.der_core.specs.Lent.{at_option, kept_option}
-use Rattle.der_core.specs.Placed.{AreDer}
+use Rattle.der_core.specs.BorrowedOption.{at_option, kept_option}
+use Rattle.der_core.specs.Borrowed.{AreDer}
 use Rattle.key_types.specs.AlgorithmIdentifier.{parameters_of}
 use Rattle.key_types.specs.Facts.Kinds.{one_kind}
 use Rattle.key_types.specs.KeyKind.{names_kind}

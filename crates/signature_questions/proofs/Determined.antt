@@ -1,8 +1,8 @@
 -- The octets of a signature file, or of the certificates of a chain, determine the questions.
 use Rattle.std.proofs.Common.{◌≡◌, ℕ, List, ◌∷◌, map, subst}
 use Rattle.cms_types.specs.SignedDataElements.{SignedDataElements}
-use Rattle.x509_core.specs.KeptCertificate.{KeptCertificate, kept_octets}
-use Rattle.x509_core.proofs.KeptOctets.{same_certificates}
+use Rattle.x509_core.specs.OwnedCertificate.{KeptCertificate, kept_octets}
+use Rattle.x509_core.proofs.OwnedOctets.{same_certificates}
 use Rattle.authenticode_core.specs.Basic.{HasSignedData}
 use Rattle.authenticode_core.proofs.OneData.{one_data}
 use Rattle.signature_questions.specs.Listed.{AreOfChain, AreQuestions}

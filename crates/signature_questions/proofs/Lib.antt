@@ -4,7 +4,7 @@ pub mod Agreed
 pub mod Chains
 pub mod Members
 pub mod Tables
-pub mod OnePlace
+pub mod OneIndex
 pub mod Listing
 pub mod BorrowedKeys
 pub mod BorrowedAlgorithms

@@ -8,7 +8,7 @@ use Rattle.program_frame.specs.declared.report.Report.{Report}
 use Rattle.program_frame.specs.declared.stop.Stop.{Stop}
 use Rattle.program_frame.specs.declared.stop.Stop.TheVariants as stops
 use Rattle.program_frame.proofs.Reporting.{IsReport-lines}
-use Rattle.x509_core.specs.KeptCertificates.{IsFirstUnread}
+use Rattle.x509_core.specs.OwnedCertificates.{IsFirstUnread}
 use Rattle.x509_core.specs.declared.error.CertError.{CertError}
 use Rattle.x509_core.specs.declared.error.CertError.TheVariants as cert
 use Rattle.signature_questions.specs.Commands.{IsChainLine, IsSignatureLine, program}

@@ -1,10 +1,10 @@
 -- Questions about links, among those about chains and indices of a bag.
 use Rattle.std.proofs.Common.{◌≡◌, ℕ, List, [], ◌∷◌, ◌++◌, inl, inr, sym, subst}
 use Rattle.x509_core.specs.Chain.{last_of}
-use Rattle.x509_core.specs.KeptCertificate.{KeptCertificate}
+use Rattle.x509_core.specs.OwnedCertificate.{KeptCertificate}
 use Rattle.x509_types.specs.CertificateElements.{CertificateElements}
 use Rattle.authenticode_core.specs.LinkedPath.{StandAt}
-use Rattle.authenticode_core.specs.Places.{StandsAt}
+use Rattle.authenticode_core.specs.Indices.{StandsAt}
 use Rattle.signature_questions.specs.Asked.{IsOfChain, IsOfLink, IsOfLinks}
 use Rattle.signature_questions.specs.Question.{Question}
 

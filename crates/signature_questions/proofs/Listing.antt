@@ -3,13 +3,13 @@ use Rattle.std.proofs.Common.{◌≡◌, ◌⊎◌, ◌↔◌, ℕ, List, [], �
 use Rattle.std.specs.Prelude.{Contains, option_to_list}
 use Rattle.std.proofs.lemmas.List.Elements.{Contains-append_cases, Contains-append_left, Contains-append_right}
 use Rattle.cms_types.specs.SignedDataElements.{SignedDataElements}
-use Rattle.x509_core.specs.KeptCertificate.{KeptCertificate}
+use Rattle.x509_core.specs.OwnedCertificate.{KeptCertificate}
 use Rattle.x509_types.specs.CertificateElements.{CertificateElements}
 use Rattle.authenticode_core.proofs.WalkSteps.{same_certificate}
 use Rattle.signature_questions.specs.Asked.{Chained, HasPath, HasStamp, IsOfChain, IsOfChained, IsOfLink, IsOfLinks, IsQuestion}
 use Rattle.signature_questions.specs.Listed.{AreOfAll, AreOfChain, AreOfLinks, AreQuestions, IsTheOne}
 use Rattle.signature_questions.specs.Question.{Question}
-use Rattle.signature_questions.proofs.OnePlace.{IsUnique, path_unique, stamp_unique}
+use Rattle.signature_questions.proofs.OneIndex.{IsUnique, path_unique, stamp_unique}
 use Rattle.signature_questions.proofs.Members.{first_or_later, first_there, none_there}
 
 -- ---- at most one question

@@ -2,7 +2,7 @@
 use Rattle.std.proofs.Common.{◌≡◌, ℕ, List, ◌∷◌, false, inl, inr, sym, ap, subst, ◌∙◌}
 use Rattle.cms_types.specs.SignedDataElements.{SignedDataElements}
 use Rattle.program_frame.specs.Commands.{Line}
-use Rattle.x509_core.specs.KeptCertificate.{KeptCertificate}
+use Rattle.x509_core.specs.OwnedCertificate.{KeptCertificate}
 use Rattle.authenticode_core.specs.Basic.{HasSignedData, RefusesValue}
 use Rattle.authenticode_core.specs.Policy.{first_policy}
 use Rattle.authenticode_core.specs.declared.error.CheckError.{CheckError}
@@ -13,7 +13,7 @@ use Rattle.signature_questions.specs.Commands.{IsChainLine, IsSignatureLine}
 use Rattle.signature_questions.specs.Lines.{question_lines, refused_chain_line, refused_line}
 use Rattle.signature_questions.specs.Listed.{AreOfChain, AreQuestions}
 use Rattle.signature_questions.proofs.OneList.{chain_once, questions_once}
-use Rattle.x509_core.proofs.KeptOctets.{same_certificates}
+use Rattle.x509_core.proofs.OwnedOctets.{same_certificates}
 use Rattle.signature_questions.proofs.ReadCauses.{none_refused, one_cause}
 
 same_line : (a b : Line) → a.status ≡ b.status → a.text ≡ b.text → a ≡ b

@@ -2,13 +2,13 @@
 use Rattle.std.proofs.Common.{◌≡◌, ℕ, List, [], ◌∷◌, ◌++◌, Option, Some, None, inl, inr, refl, sym, ap, ap₂, subst, ◌∙◌}
 use Rattle.std.specs.Prelude.{option_to_list}
 use Rattle.cms_types.specs.SignedDataElements.{SignedDataElements}
-use Rattle.x509_core.specs.KeptCertificate.{KeptCertificate}
+use Rattle.x509_core.specs.OwnedCertificate.{KeptCertificate}
 use Rattle.x509_types.specs.CertificateElements.{CertificateElements}
 use Rattle.authenticode_core.proofs.WalkSteps.{same_certificate}
 use Rattle.signature_questions.specs.Asked.{Chained, HasPath, HasStamp, IsOfLink, IsOfSigner}
 use Rattle.signature_questions.specs.Listed.{AreOfAll, AreOfChain, AreOfLinks, AreQuestions, IsTheOne}
 use Rattle.signature_questions.specs.Question.{Question}
-use Rattle.signature_questions.proofs.OnePlace.{IsUnique, path_unique, stamp_unique}
+use Rattle.signature_questions.proofs.OneIndex.{IsUnique, path_unique, stamp_unique}
 
 -- at most one question, once
 one_is : (Asked : Question → Type 0) (a b : Option Question) → IsTheOne Asked a → IsTheOne Asked b → a ≡ b

@@ -8,8 +8,8 @@ use Rattle.key_core.specs.declared.element.Element.TheVariants as elements
 use Rattle.x509_types.specs.Certificate.{IsCertificate}
 use Rattle.x509_types.specs.declared.certificate.Certificate.{Certificate}
 use Rattle.x509_core.specs.CertRefusals.{IsUnreadCert, unread}
-use Rattle.x509_core.proofs.KeptOctets.{refused_for_memory}
-use Rattle.x509_core.specs.KeptCertificate.{KeptCertificate, kept_octets}
+use Rattle.x509_core.proofs.OwnedOctets.{refused_for_memory}
+use Rattle.x509_core.specs.OwnedCertificate.{KeptCertificate, kept_octets}
 use Rattle.x509_core.specs.declared.error.CertError.{CertError}
 use Rattle.x509_core.specs.declared.error.CertError.TheVariants as cert
 use Rattle.signature_questions.specs.Commands.{IsRefusedCertificate}

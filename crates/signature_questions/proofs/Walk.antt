@@ -5,13 +5,13 @@ use Rattle.std.specs.Prelude.{option_to_list}
 use Rattle.cms_types.specs.SignedDataElements.{SignedDataElements}
 use Rattle.cms_types.specs.SignerElements.{SignerElements}
 use Rattle.cms_types.specs.SignerInfo.{signer_elements}
-use Rattle.x509_core.specs.KeptCertificate.{KeptCertificate}
+use Rattle.x509_core.specs.OwnedCertificate.{KeptCertificate}
 use Rattle.x509_types.specs.CertificateElements.{CertificateElements}
 use Rattle.authenticode_core.specs.BagSigner.{HasNoSigner}
 use Rattle.authenticode_core.specs.Excuses.{AreOthersThan, HasToken, IsForStamping}
 use Rattle.authenticode_core.specs.IssuerWalk.{IsIssuerPath}
 use Rattle.authenticode_core.specs.OthersCursor.{AreLeft, IsFirstOf, unread_members}
-use Rattle.authenticode_core.specs.Places.{StandsAt}
+use Rattle.authenticode_core.specs.Indices.{StandsAt}
 use Rattle.authenticode_core.specs.SignedFields.{IsFirstSigner, signers_of}
 use Rattle.authenticode_core.specs.SigningRules.{IsBagOf, IsSignerCertificate}
 use Rattle.authenticode_core.specs.declared.bag.others.Others.{Others}

@@ -10,12 +10,12 @@ use Rattle.key_core.specs.declared.signature_algorithm.SignatureAlgorithm.{Signa
 use Rattle.key_core.specs.declared.signature_algorithm.SignatureAlgorithm.TheVariants.{RsaPkcs1v15}
 use Rattle.key_types.specs.declared.key_info.SubjectPublicKeyInfo.{SubjectPublicKeyInfo}
 use Rattle.sig_core.specs.declared.hash.HashAlgorithm.{HashAlgorithm}
-use Rattle.x509_core.specs.KeptCertificate.{KeptCertificate}
+use Rattle.x509_core.specs.OwnedCertificate.{KeptCertificate}
 use Rattle.x509_core.specs.Link.{HasKey, IsSignedWith, signed_octets}
 use Rattle.x509_types.specs.CertificateElements.{CertificateElements}
 use Rattle.authenticode_core.specs.Excuses.{AreOthersThan, HasToken, IsForStamping}
 use Rattle.authenticode_core.specs.IssuerWalk.{IsIssuerPath}
-use Rattle.authenticode_core.specs.Places.{StandsAt}
+use Rattle.authenticode_core.specs.Indices.{StandsAt}
 use Rattle.authenticode_core.specs.SignedFields.{IsFirstSigner, signed_message}
 use Rattle.authenticode_core.specs.SigningRules.{IsBagOf, IsSignerCertificate, NamesDigest}
 use Rattle.signature_questions.specs.Question.{Question, AsksAbout}

@@ -2,8 +2,8 @@
 use Rattle.std.specs.Prelude.{◌≡◌, ℕ, List, ◌∷◌, Option, Some, None, MatchOption}
 use Rattle.asn1_types.specs.Values.{identifier_contents}
 use Rattle.der_core.specs.DerElement.{Primitive}
-use Rattle.der_core.specs.Lent.{at_option, kept_option}
-use Rattle.der_core.specs.Placed.{AreDer}
+use Rattle.der_core.specs.BorrowedOption.{at_option, kept_option}
+use Rattle.der_core.specs.Borrowed.{AreDer}
 use Rattle.key_types.specs.AlgorithmIdentifier.{oid_of, parameters_of}
 use Rattle.key_types.specs.PublicKeyInfo.{inner_key, subject_public_key}
 use Rattle.key_types.specs.declared.key_info.SubjectPublicKeyInfo.{SubjectPublicKeyInfo}

@@ -13,4 +13,4 @@ pub mod Words
 pub mod Lines
 pub mod Commands
 pub mod BorrowedKey
-pub mod HeldCommand
+pub mod OwnedCommand

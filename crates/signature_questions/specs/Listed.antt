@@ -1,9 +1,9 @@
 -- The questions about a signature, or about a chain, as a list.
 use Rattle.std.specs.Prelude.{◌≡◌, ◌⊎◌, ℕ, List, [], ◌∷◌, ◌++◌, Option, Some, None, option_to_list}
 use Rattle.cms_types.specs.SignedDataElements.{SignedDataElements}
-use Rattle.x509_core.specs.KeptCertificate.{KeptCertificate}
+use Rattle.x509_core.specs.OwnedCertificate.{KeptCertificate}
 use Rattle.x509_types.specs.CertificateElements.{CertificateElements}
-use Rattle.authenticode_core.specs.Places.{StandsAt}
+use Rattle.authenticode_core.specs.Indices.{StandsAt}
 use Rattle.signature_questions.specs.Asked.{Chained, HasPath, HasStamp, IsOfLink, IsOfSigner}
 use Rattle.signature_questions.specs.Question.{Question}
 

@@ -2,11 +2,11 @@
 
 ghost use Rattle.std.specs.Prelude.{◌≡◌, Err, IfOk, MatchResult, string_bytes};
 ghost use Rattle.program_frame.specs.Answering.{line_held};
-ghost use Rattle.program_frame.specs.Held.{contents_held};
+ghost use Rattle.program_frame.specs.Owned.{contents_held};
 ghost use Rattle.program_frame.specs.Reports.{Reports, as_lines};
 ghost use Rattle.program_frame.specs.Statuses as statuses;
 ghost use Rattle.program_frame.specs.declared.stop.Stop.TheVariants as stops;
-ghost use Rattle.signature_questions.specs.HeldCommand.{command_held};
+ghost use Rattle.signature_questions.specs.OwnedCommand.{command_held};
 ghost use Rattle.signature_questions.specs.Words.{Command as AskedCommand};
 ghost use Rattle.signature_questions.specs.Commands.{IsChainLine, IsSignatureLine, program};
 ghost use Rattle.signature_questions.specs.Lines.{refused_chain_line, refused_line};

@@ -2,7 +2,7 @@
 
 ghost use Rattle.std.specs.Prelude.{◌≡◌, ℕ, List, Some, MatchOption};
 ghost use Rattle.asn1_types.specs.Elements.{object_identifier_of};
-ghost use Rattle.der_core.specs.Lent.{at_option};
+ghost use Rattle.der_core.specs.BorrowedOption.{at_option};
 ghost use Rattle.key_types.specs.PublicKeyInfo.{IsPublicKeyInfo, public_key_info};
 ghost use Rattle.key_types.specs.declared.key_info.SubjectPublicKeyInfo.{SubjectPublicKeyInfo};
 ghost use Rattle.signature_questions.specs.BorrowedKey.{FitsBorrowed, LendsKey};

@@ -7,7 +7,7 @@ ghost use Rattle.key_core.specs.Verifying.{Judge};
 ghost use Rattle.sig_core.specs.VerdictTable.{verdict_of};
 ghost use Rattle.sig_core.specs.declared.verdict_row.VerdictRow.{VerdictRow};
 ghost use Rattle.x509_core.specs.Chain.{IsAccepted, chain_rules};
-ghost use Rattle.x509_core.specs.KeptCertificate.{KeptCertificate, kept_octets};
+ghost use Rattle.x509_core.specs.OwnedCertificate.{KeptCertificate, kept_octets};
 ghost use Rattle.x509_core.specs.Link.{IsSignedBy};
 ghost use Rattle.x509_core.specs.Rules.{RefusesCertBy};
 ghost use Rattle.x509_core.specs.declared.error.CertError.{CertError};

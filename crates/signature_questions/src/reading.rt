@@ -1,8 +1,8 @@
 //! Reading a chain of certificates.
 
 ghost use Rattle.std.specs.Prelude.{◌∷◌, MatchResult};
-ghost use Rattle.program_frame.specs.Held.{contents_held};
-ghost use Rattle.x509_core.specs.KeptCertificates.{AreKeptCertificates, IsFirstUnread};
+ghost use Rattle.program_frame.specs.Owned.{contents_held};
+ghost use Rattle.x509_core.specs.OwnedCertificates.{AreKeptCertificates, IsFirstUnread};
 
 use program_frame::Contents;
 use std::alloc::Global;

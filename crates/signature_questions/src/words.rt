@@ -3,7 +3,7 @@
 ghost use Rattle.std.specs.Prelude.{◌≡◌, Some, map, MatchOption, option_map, string_bytes};
 ghost use Rattle.program_frame.specs.Commands.{AsksForNothing};
 ghost use Rattle.signature_questions.specs.Commands.{program};
-ghost use Rattle.signature_questions.specs.HeldCommand.{command_held};
+ghost use Rattle.signature_questions.specs.OwnedCommand.{command_held};
 ghost use Rattle.signature_questions.specs.Words.{AreInLimits, AsksFor, Command as AskedCommand, OfChain};
 
 use crate::command::Command;

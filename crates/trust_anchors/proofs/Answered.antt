@@ -4,7 +4,7 @@ use Rattle.std.proofs.lemmas.List.Sums.{sum_by-cons}
 use Rattle.key_core.specs.Verifying.{Judge}
 use Rattle.sig_core.specs.declared.verdict_row.VerdictRow.{VerdictRow}
 use Rattle.sig_core.specs.VerdictTable.{IsTable, verdict_of}
-use Rattle.x509_core.specs.KeptCertificate.{KeptCertificate}
+use Rattle.x509_core.specs.OwnedCertificate.{KeptCertificate}
 use Rattle.program_frame.specs.declared.report.Report.{Report}
 use Rattle.program_frame.specs.declared.stop.Stop.{Stop}
 use Rattle.program_frame.specs.declared.stop.Stop.TheVariants as stop
@@ -15,7 +15,8 @@ use Rattle.program_frame.specs.Run.{IsRunAnswer}
 use Rattle.program_frame.specs.Shelf.{ShelfState}
 use Rattle.program_frame.specs.Sink.{Appends}
 use Rattle.trust_anchors.specs.AnchoredPath.{HasNoPath, IsAnchoredPath}
-use Rattle.trust_anchors.specs.Answer.{AreGiven, IsAnswerTo, IsSearchResult, certificates_in, code_anchor, program, report_line, reporting, status_of, table_in}
+use Rattle.trust_anchors.specs.Commands.{AreGiven, IsAnswerTo, IsSearchResult, certificates_in, code_anchor, program, table_in}
+use Rattle.trust_anchors.specs.Commands.{report_line, reporting, status_of}
 use Rattle.trust_anchors.specs.FirstPath.{IsFirstPath}
 use Rattle.program_frame.specs.Reports.{IsReportOf, Reports}
 use Rattle.trust_anchors.specs.Reported.{IsReportedPath}

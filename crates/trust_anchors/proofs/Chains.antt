@@ -4,7 +4,7 @@ use Rattle.std.specs.Prelude.{slice_get}
 use Rattle.std.proofs.lemmas.Bool.{cases_lt, false≢true}
 use Rattle.std.proofs.lemmas.Option.{slice_get_past}
 use Rattle.x509_core.specs.Chain.{last_of}
-use Rattle.x509_core.specs.KeptCertificate.{KeptCertificate}
+use Rattle.x509_core.specs.OwnedCertificate.{KeptCertificate}
 use Rattle.trust_anchors.specs.AnchoredPath.{AreAt}
 use Rattle.trust_anchors.specs.Inside.Trails.{end_from}
 

@@ -5,7 +5,7 @@ use Rattle.std.proofs.lemmas.Bool.{cases_lt, false≢true}
 use Rattle.asn1_types.specs.declared.generalized_time.GeneralizedTime.{GeneralizedTime}
 use Rattle.key_core.specs.Verifying.{Judge}
 use Rattle.x509_core.specs.Chain.{IsAccepted, last_of}
-use Rattle.x509_core.specs.KeptCertificate.{KeptCertificate}
+use Rattle.x509_core.specs.OwnedCertificate.{KeptCertificate}
 use Rattle.x509_core.specs.Window.{IsWithinWindow}
 use Rattle.x509_core.specs.declared.window.DateCheck.TheVariants as dates
 use Rattle.trust_anchors.specs.AnchoredPath.{HasNoPath, IsAnchoredPath, checks_on, parents_of, window_on}

@@ -6,15 +6,15 @@ use Rattle.der_core.specs.Refusals.{RefusesOctets}
 use Rattle.key_core.specs.declared.element.Element.TheVariants as elements
 use Rattle.x509_types.specs.Certificate.{IsCertificate}
 use Rattle.x509_core.specs.CertRefusals.{IsUnreadCert, unread}
-use Rattle.x509_core.specs.KeptCertificate.{KeptCertificate, kept_octets}
+use Rattle.x509_core.specs.OwnedCertificate.{KeptCertificate, kept_octets}
 use Rattle.x509_core.specs.declared.error.CertError.{CertError}
 use Rattle.x509_core.specs.declared.error.CertError.TheVariants as errors
-use Rattle.trust_anchors.specs.Answer.{AreGiven, code_anchor}
+use Rattle.trust_anchors.specs.Commands.{AreGiven, code_anchor}
 use Rattle.trust_anchors.specs.Reading.{AppendsAnchors, AppendsRead, IsUnread}
 use Rattle.trust_anchors.specs.declared.anchor.Anchor.{Anchor}
 use Rattle.trust_anchors.specs.declared.reading.ReadError.{ReadError}
 use Rattle.trust_anchors.specs.declared.reading.ReadError.TheVariants as read_error
-use Rattle.x509_core.proofs.KeptOctets.{refused_for_memory}
+use Rattle.x509_core.proofs.OwnedOctets.{refused_for_memory}
 
 -- octets that are refused are no certificate, unless memory ran out
 pub unread_one : (octets : List ℕ) (e : CertError) (r : ReadError) → IsUnreadCert elements.Certificate (RefusesOctets IsCertificate octets) e

@@ -6,7 +6,7 @@ use Rattle.std.proofs.lemmas.Bool.{cases_lt}
 use Rattle.std.proofs.lemmas.List.Elements.{Contains-append_left, Contains-push, Contains-push_cases}
 use Rattle.std.proofs.lemmas.Option.{slice_get_within}
 use Rattle.x509_core.specs.Chain.{IsLinkedChain, last_of}
-use Rattle.x509_core.specs.KeptCertificate.{KeptCertificate}
+use Rattle.x509_core.specs.OwnedCertificate.{KeptCertificate}
 use Rattle.x509_core.specs.Link.{IsLink}
 use Rattle.trust_anchors.specs.FirstPath.{IsBefore}
 use Rattle.trust_anchors.specs.Inside.Trails.{Continues, HasAsGood, IsFirstOf, IsLayer, IsLayerUpTo, IsTrail, IsUpTo, Sought, end_of}

@@ -1,7 +1,7 @@
 -- Schemes that agree on the links of a search.
 use Rattle.std.specs.Prelude.{◌≡◌, ◌⊎◌, ◌↔◌, List, Contains}
 use Rattle.key_core.specs.Verifying.{Judge}
-use Rattle.x509_core.specs.KeptCertificate.{KeptCertificate}
+use Rattle.x509_core.specs.OwnedCertificate.{KeptCertificate}
 use Rattle.x509_core.specs.Link.{IsSignedBy}
 use Rattle.trust_anchors.specs.Anchors.{Serves}
 use Rattle.trust_anchors.specs.declared.anchor.Anchor.{Anchor}

@@ -3,7 +3,7 @@ use Rattle.std.specs.Prelude.{◌≡◌, ◌≤◌, ◌++◌, ◌∷◌, [], ℕ
 use Rattle.asn1_types.specs.declared.generalized_time.GeneralizedTime.{GeneralizedTime}
 use Rattle.key_core.specs.Verifying.{Judge}
 use Rattle.x509_core.specs.Chain.{IsLinkedChain}
-use Rattle.x509_core.specs.KeptCertificate.{KeptCertificate}
+use Rattle.x509_core.specs.OwnedCertificate.{KeptCertificate}
 use Rattle.x509_core.specs.Window.{IsWithinWindow}
 use Rattle.x509_core.specs.declared.validator.ChainChecks.{ChainChecks}
 use Rattle.x509_core.specs.declared.window.DateCheck.TheVariants as dates

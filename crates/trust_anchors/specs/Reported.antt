@@ -2,12 +2,12 @@
 use Rattle.std.specs.Prelude.{ℕ, List, ◌+◌, length, Option}
 use Rattle.sig_core.specs.declared.verdict_row.VerdictRow.{VerdictRow}
 use Rattle.sig_core.specs.VerdictTable.{IsTable, verdict_of}
-use Rattle.x509_core.specs.KeptCertificate.{KeptCertificate}
+use Rattle.x509_core.specs.OwnedCertificate.{KeptCertificate}
 use Rattle.program_frame.specs.Limits.{IsWholeFile, AreWholeFiles}
 use Rattle.program_frame.specs.ReadFiles.{HandsOut, total_length}
 use Rattle.program_frame.specs.Shelf.{ShelfState}
 use Rattle.program_frame.specs.Sink.{Appends}
-use Rattle.trust_anchors.specs.Answer.{AreGiven, IsPathOf}
+use Rattle.trust_anchors.specs.Commands.{AreGiven, IsPathOf}
 use Rattle.trust_anchors.specs.FirstPath.{IsFirstPath}
 use Rattle.trust_anchors.specs.PathText.{anchored_line}
 use Rattle.trust_anchors.specs.Words.{AsksFor, Command}

@@ -4,7 +4,7 @@ ghost use Rattle.std.specs.Prelude.{◌≡◌, List, Option, Some, MatchOption};
 ghost use Rattle.asn1_types.specs.declared.generalized_time.GeneralizedTime.{GeneralizedTime};
 ghost use Rattle.key_core.specs.Verifying.{Judge};
 ghost use Rattle.x509_core.specs.Chain.{IsAccepted};
-ghost use Rattle.x509_core.specs.KeptCertificate.{KeptCertificate};
+ghost use Rattle.x509_core.specs.OwnedCertificate.{KeptCertificate};
 ghost use Rattle.trust_anchors.specs.Agreement.{AgreeOnLinks};
 ghost use Rattle.trust_anchors.specs.AnchoredPath.{HasNoPath, IsAnchoredPath, checks_on, parents_of};
 ghost use Rattle.trust_anchors.specs.FirstPath.{IsFirstPath};

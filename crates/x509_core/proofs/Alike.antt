@@ -2,7 +2,7 @@
 use Rattle.std.proofs.Common.{ℕ, List, refl, sym, subst, ◌∙◌}
 use Rattle.std.specs.Prelude.{Bool}
 use Rattle.der_core.specs.DerElement.{DerElement}
-use Rattle.der_core.specs.Kept.{IsKept}
+use Rattle.der_core.specs.Owned.{IsKept}
 use Rattle.asn1_types.specs.declared.oids.TheConstants.{CE_SUBJECT_KEY_IDENTIFIER, CE_BASIC_CONSTRAINTS, CE_AUTHORITY_KEY_IDENTIFIER}
 use Rattle.extension_types.specs.BasicConstraints.{IsBasicConstraints}
 use Rattle.extension_types.specs.declared.basic_constraints.BasicConstraints.{BasicConstraints}
@@ -18,7 +18,7 @@ use Rattle.x509_types.specs.declared.extension.view.ExtensionKind.{ExtensionKind
 use Rattle.x509_types.specs.declared.extension.view.ExtensionKind.TheVariants as kinds
 use Rattle.x509_types.specs.declared.extension.view.ExtensionView.{ExtensionView}
 use Rattle.x509_types.specs.declared.extension.view.ExtensionView.TheVariants as views
-use Rattle.der_core.specs.Facts.Kept.{one_kept}
+use Rattle.der_core.specs.Facts.Owned.{one_kept}
 use Rattle.x509_types.proofs.FirstOnes.{listed_each, had, lies}
 use Rattle.x509_core.specs.FirstValue.{HasFirst}
 use Rattle.x509_core.specs.SaidValues.{NamesKey, HasFlag, HasLength, SayTheSame}

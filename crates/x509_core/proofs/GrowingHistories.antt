@@ -6,7 +6,7 @@ use Rattle.key_core.specs.Verifying.{Judge}
 use Rattle.x509_core.specs.CertType.{IsSelfIssued}
 use Rattle.x509_core.specs.History.{IssuingStep, History, HasStep, HasIssuer, IsRootStep}
 use Rattle.x509_core.specs.Issued.{HasCert, IsRecordedAs, IsCertifiedBy, IsIssued, IsNext}
-use Rattle.x509_core.specs.KeptCertificate.{KeptCertificate}
+use Rattle.x509_core.specs.OwnedCertificate.{KeptCertificate}
 use Rattle.x509_core.proofs.Chains.{one_more}
 use Rattle.x509_core.proofs.Validity.{same_some}
 

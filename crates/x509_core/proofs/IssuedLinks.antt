@@ -10,7 +10,7 @@ use Rattle.x509_core.specs.Chain.{IsAccepted, IsPath, IsLinkedChain, IsDated, la
 use Rattle.x509_core.specs.Checks.{checks_at, first_checks}
 use Rattle.x509_core.specs.History.{IssuingStep, History, HasStep, HasIssuer, AreIssuers, AreAncestors, IsDuring, IsAllowed, AreAllowed, IsValidAt}
 use Rattle.x509_core.specs.Issued.{HasCert, AreCertsAt, IsRecordedAs, IsCertifiedBy, IsIssued}
-use Rattle.x509_core.specs.KeptCertificate.{KeptCertificate}
+use Rattle.x509_core.specs.OwnedCertificate.{KeptCertificate}
 use Rattle.x509_core.specs.Link.{IsLink, IsDeepEnough}
 use Rattle.x509_core.specs.Parent.{AgreeByKeyAndName}
 use Rattle.x509_core.specs.Window.{IsWithinWindow}

@@ -1,4 +1,4 @@
-pub mod KeptFields
+pub mod OwnedFields
 pub mod SameCerts
 pub mod Anew
 pub mod KeyIds
@@ -7,7 +7,7 @@ pub mod FirstOfIdentifier
 pub mod DistinctExtensions
 pub mod ReadCerts
 pub mod ReadCertificates
-pub mod KeptOctets
+pub mod OwnedOctets
 pub mod Links
 pub mod Parts
 pub mod Alike

@@ -4,7 +4,7 @@ use Rattle.der_core.specs.Rules.{IsMet}
 use Rattle.key_core.specs.Verifying.{Judge}
 use Rattle.x509_types.specs.CertificateElements.{CertificateElements}
 use Rattle.x509_types.specs.ExtensionParts.{HasCa, HasPathLength}
-use Rattle.x509_core.specs.KeptCertificate.{KeptCertificate}
+use Rattle.x509_core.specs.OwnedCertificate.{KeptCertificate}
 use Rattle.x509_core.specs.Link.{IsDeepEnough, IsCountFor, IsLink, IsSignedBy, IsNoAuthority, IsTooDeep, IsOutside, link_rules, link_signature_rules}
 use Rattle.x509_core.specs.Parent.{AgreeByKeyAndName, RefusesParent}
 use Rattle.x509_core.specs.Rules.{Breaks, RefusesCertBy}

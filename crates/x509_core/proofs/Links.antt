@@ -3,7 +3,7 @@ use Rattle.std.proofs.Common.{◌≡◌, ◌≢◌, ◌↔◌, IsTrue, Bool, ref
 use Rattle.der_core.specs.Rules.{IsMet}
 use Rattle.names_core.specs.declared.name.DirectoryName.{DirectoryName}
 use Rattle.x509_types.specs.CertificateElements.{CertificateElements}
-use Rattle.x509_core.specs.KeptCertificate.{KeptCertificate}
+use Rattle.x509_core.specs.OwnedCertificate.{KeptCertificate}
 use Rattle.x509_core.specs.Link.{IsNoParent}
 use Rattle.x509_core.specs.Parent.{AgreeByName, AgreeByKeyAndName, LacksKey, DifferByKey, IsKeyLink, RefusesChain, RefusesLink, RefusesParent}
 use Rattle.x509_core.specs.declared.error.CaChainError.{CaChainError}

@@ -2,7 +2,7 @@
 use Rattle.std.proofs.Common.{◌≡◌, ◌↔◌, IsTrue, Bool, ℕ, List, sym, ap, ◌∙◌}
 use Rattle.der_core.specs.DerElement.{DerElement}
 use Rattle.der_core.specs.Encoding.{encoding, IsDer}
-use Rattle.der_core.specs.Facts.Kept.{same_encoded}
+use Rattle.der_core.specs.Facts.Owned.{same_encoded}
 
 pub same_elements : (a b : DerElement) (x y : List ℕ) (t : Bool) → IsDer a → IsDer b → x ≡ encoding a → y ≡ encoding b → (IsTrue t ↔ (x ≡ y))
     → IsTrue t ↔ (a ≡ b)

@@ -4,7 +4,7 @@ use Rattle.der_core.specs.Rules.{IsFirstBroken}
 use Rattle.der_core.proofs.RuleLists.{IsReturnedOnce, one_broken}
 use Rattle.key_core.specs.Verifying.{Judge}
 use Rattle.x509_core.specs.Chain.{IsFirstUnlinked, IsUnlinked, chain_rules, last_of}
-use Rattle.x509_core.specs.KeptCertificate.{KeptCertificate}
+use Rattle.x509_core.specs.OwnedCertificate.{KeptCertificate}
 use Rattle.x509_core.specs.Link.{link_rules}
 use Rattle.x509_core.specs.Window.{window_rules}
 use Rattle.x509_core.specs.declared.error.CertError.{CertError}

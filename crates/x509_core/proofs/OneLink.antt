@@ -19,7 +19,7 @@ use Rattle.key_types.specs.declared.key_info.SubjectPublicKeyInfo.{SubjectPublic
 use Rattle.names_core.specs.Names.{name_of_sets}
 use Rattle.names_core.specs.declared.name.DirectoryName.{DirectoryName}
 use Rattle.x509_types.specs.CertificateElements.{CertificateElements}
-use Rattle.x509_core.specs.KeptCertificate.{KeptCertificate}
+use Rattle.x509_core.specs.OwnedCertificate.{KeptCertificate}
 use Rattle.x509_core.specs.Link.{IsReportedOf, IsNoAuthority, IsTooDeep, IsNoParent, IsUnsupported, IsBadlySignedLink, signed_octets, link_rules}
 use Rattle.x509_core.specs.Parent.{IsNameOf, LacksKey, DifferByKey, DifferByName, RefusesChain, RefusesLink, RefusesParent}
 use Rattle.x509_core.specs.Window.{IsTimeAt, IsNotYetValid, IsOver, window_rules}

@@ -7,7 +7,7 @@ use Rattle.der_core.specs.Elements.{sequence, optional_leaf}
 use Rattle.der_core.specs.Default.{IsBoolean}
 use Rattle.der_core.specs.Facts.Fields.{split}
 use Rattle.der_core.specs.Facts.Grammars.{same_fields}
-use Rattle.der_core.specs.Lent.{kept_option}
+use Rattle.der_core.specs.BorrowedOption.{kept_option}
 use Rattle.extension_types.specs.AuthorityIssuer.{HasIssuerTag}
 use Rattle.extension_types.specs.AuthorityKeyIdentifier.{authority_key_of, authority_key_identifier}
 use Rattle.extension_types.specs.BasicConstraints.{small_integer, optional_integer, IsBasicConstraints}

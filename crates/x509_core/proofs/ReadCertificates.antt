@@ -6,8 +6,8 @@ use Rattle.der_core.specs.declared.error.DerError.TheVariants as der
 use Rattle.key_core.specs.declared.element.Element.TheVariants as elements
 use Rattle.x509_types.specs.Certificate.{IsCertificate}
 use Rattle.x509_core.specs.CertRefusals.{IsUnreadCert}
-use Rattle.x509_core.specs.KeptCertificate.{KeptCertificate, kept_octets}
-use Rattle.x509_core.specs.KeptCertificates.{AreKeptCertificates, IsFirstUnread}
+use Rattle.x509_core.specs.OwnedCertificate.{KeptCertificate, kept_octets}
+use Rattle.x509_core.specs.OwnedCertificates.{AreKeptCertificates, IsFirstUnread}
 use Rattle.x509_core.specs.declared.error.CertError.{CertError}
 use Rattle.x509_core.specs.declared.error.CertError.TheVariants as errors
 

@@ -8,7 +8,7 @@ use Rattle.der_core.specs.declared.error.DerError.{DerError}
 use Rattle.der_core.specs.declared.error.DerError.TheVariants as errors
 use Rattle.x509_types.specs.Certificate.{IsCertificate}
 use Rattle.x509_types.specs.CertificateElements.{certificate_of}
-use Rattle.x509_core.specs.KeptCertificate.{KeptCertificate, kept_octets}
+use Rattle.x509_core.specs.OwnedCertificate.{KeptCertificate, kept_octets}
 
 pub read_whole : (octets : List ℕ) (element : DerElement) (r : Result KeptCertificate DerError) → octets ≡ encoding element
     → IfOk r (λ kept. certificate_of kept.elements ≡ element) → IfOk r (λ kept. kept_octets kept ≡ octets)

@@ -1,9 +1,9 @@
 -- Certificates are the same where what is stored of them is.
 use Rattle.std.proofs.Common.{◌≡◌, ◌↔◌, IsTrue, Bool, sym, ap, ◌∙◌}
-use Rattle.der_core.specs.Kept.{KeptElement}
-use Rattle.der_core.specs.Facts.Kept.{same_kept}
+use Rattle.der_core.specs.Owned.{KeptElement}
+use Rattle.der_core.specs.Facts.Owned.{same_kept}
 use Rattle.x509_types.specs.CertificateElements.{certificate_of}
-use Rattle.x509_core.specs.KeptCertificate.{KeptCertificate}
+use Rattle.x509_core.specs.OwnedCertificate.{KeptCertificate}
 use Rattle.x509_core.specs.Facts.Certs.{kept_once}
 
 pub same_certs : (a b : KeptCertificate) (x y : KeptElement) (t : Bool) → x.element ≡ certificate_of a.elements → y.element ≡ certificate_of b.elements

@@ -7,8 +7,8 @@ use Rattle.asn1_types.specs.declared.oids.TheConstants.{CE_BASIC_CONSTRAINTS}
 use Rattle.der_core.specs.Default.{IsBoolean}
 use Rattle.der_core.specs.DerElement.{DerElement, Primitive, row}
 use Rattle.der_core.specs.Encoding.{IsDer}
-use Rattle.der_core.specs.Facts.Kept.{same_encoded}
-use Rattle.der_core.specs.Facts.Placed.{kids_in_bounds}
+use Rattle.der_core.specs.Facts.Owned.{same_encoded}
+use Rattle.der_core.specs.Facts.Borrowed.{kids_in_bounds}
 use Rattle.der_core.specs.Optional.{members_of}
 use Rattle.key_core.specs.Verifying.{Judge}
 use Rattle.key_types.specs.declared.key_info.SubjectPublicKeyInfo.{SubjectPublicKeyInfo}
@@ -24,7 +24,7 @@ use Rattle.x509_core.specs.Chain.{IsAccepted, IsLinkedChain, IsPath, last_of}
 use Rattle.x509_core.specs.CertType.{IsOfType}
 use Rattle.x509_core.specs.History.{IssuingStep, History, HasStep, IsRootStep, AreAncestors, IsAllowed}
 use Rattle.x509_core.specs.Issued.{HasCert, IsIssued, IsSignedUnder, IsOneOf, IsSealed, IsOfValid}
-use Rattle.x509_core.specs.KeptCertificate.{KeptCertificate}
+use Rattle.x509_core.specs.OwnedCertificate.{KeptCertificate}
 use Rattle.x509_core.specs.Link.{HasKey, IsLink, IsDeepEnough, signed_octets}
 use Rattle.x509_core.specs.Window.{IsTimeAt, IsWithinWindow}
 use Rattle.x509_core.specs.declared.cert_type.CertType.TheVariants as types

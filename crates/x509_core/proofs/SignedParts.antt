@@ -2,9 +2,9 @@
 use Rattle.std.proofs.Common.{◌≡◌, ℕ, List, Some, Result, Ok, Err, MatchResult, inl, inr, refl, sym, ap, subst, ◌∙◌}
 use Rattle.std.proofs.Math.Logic.{∥∥₁_elim}
 use Rattle.std.specs.Coded.{Coded-set}
-use Rattle.der_core.specs.Placed.{AreDer}
+use Rattle.der_core.specs.Borrowed.{AreDer}
 use Rattle.der_core.specs.Facts.Codes.{coded_element}
-use Rattle.der_core.specs.Facts.Placed.{AreDer-prop}
+use Rattle.der_core.specs.Facts.Borrowed.{AreDer-prop}
 use Rattle.der_core.specs.Rules.{Rule, IsMet, IsFirstBroken}
 use Rattle.key_types.specs.AlgorithmIdentifier.{algorithm_identifier}
 use Rattle.key_types.specs.Facts.Algorithms.{algorithms}
@@ -23,8 +23,8 @@ use Rattle.key_core.specs.declared.signature_error.SignatureError.{SignatureErro
 use Rattle.key_core.specs.declared.signature_error.SignatureError.TheVariants as signature_errors
 use Rattle.x509_types.specs.CertificateElements.{CertificateElements}
 use Rattle.x509_types.specs.CertificateFields.{key_octets_of}
-use Rattle.x509_core.specs.Facts.LentKeys.{lent_key}
-use Rattle.x509_core.specs.KeptCertificate.{KeptCertificate}
+use Rattle.x509_core.specs.Facts.BorrowedKeys.{lent_key}
+use Rattle.x509_core.specs.OwnedCertificate.{KeptCertificate}
 use Rattle.x509_core.specs.Link.{HasAlgorithm, HasKey, IsSignedWith, IsSignedBy, IsBadlySignedLink, IsUnsupported}
 use Rattle.x509_core.specs.Link.{IsReportedOf, signed_octets, signature_refusal, link_signature_rules}
 use Rattle.x509_core.specs.Parent.{IsInvalid}

@@ -10,7 +10,7 @@ use Rattle.key_core.specs.declared.signature_algorithm.SignatureAlgorithm.{Signa
 use Rattle.key_core.proofs.SignatureIdentifiers.{same_algorithm}
 use Rattle.key_core.proofs.Verifications.{accepted_is_met}
 use Rattle.x509_types.specs.CertificateElements.{CertificateElements}
-use Rattle.x509_core.specs.KeptCertificate.{KeptCertificate}
+use Rattle.x509_core.specs.OwnedCertificate.{KeptCertificate}
 use Rattle.x509_core.specs.Link.{IsLink, IsSignedBy, IsBadlySignedLink, IsUnsupported, signed_octets, link_rules}
 use Rattle.x509_core.specs.declared.error.CertCause.{CertCause}
 use Rattle.x509_core.specs.declared.error.CertError.{CertError}

@@ -9,7 +9,7 @@ use Rattle.key_core.specs.Verifying.{Judge}
 use Rattle.x509_core.specs.CertType.{IsOfType}
 use Rattle.x509_core.specs.Chain.{YieldsParents, IsDated, IsLinkedChain, IsFirstUnlinked, IsUnlinked, LacksDate}
 use Rattle.x509_core.specs.Chain.{LacksChain, LacksRoot, IsAccepted, IsRooted, chain_rules, last_of, lent}
-use Rattle.x509_core.specs.KeptCertificate.{KeptCertificate}
+use Rattle.x509_core.specs.OwnedCertificate.{KeptCertificate}
 use Rattle.x509_core.specs.Link.{IsOutside}
 use Rattle.x509_core.specs.Rules.{Breaks, RefusesCertBy}
 use Rattle.x509_core.specs.Window.{IsWithinWindow}

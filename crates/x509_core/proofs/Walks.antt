@@ -9,7 +9,7 @@ use Rattle.key_core.specs.Verifying.{Judge}
 use Rattle.x509_core.specs.CertType.{IsOfType}
 use Rattle.x509_core.specs.Chain.{GaveSoFar, IsWalked, WasAccepted, WasRefused, IsDated, IsLinkedChain}
 use Rattle.x509_core.specs.Chain.{IsFirstUnlinked, LacksDate, IsAccepted, chain_rules, last_of, lent}
-use Rattle.x509_core.specs.KeptCertificate.{KeptCertificate}
+use Rattle.x509_core.specs.OwnedCertificate.{KeptCertificate}
 use Rattle.x509_core.specs.Link.{IsOutside, link_rules}
 use Rattle.x509_core.specs.Parent.{RefusesParent}
 use Rattle.x509_core.specs.Rules.{Breaks}

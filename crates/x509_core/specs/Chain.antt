@@ -5,7 +5,7 @@ use Rattle.std.specs.Iterator.{AlwaysYields, Yields, Drains}
 use Rattle.der_core.specs.Rules.{Rule, IsFirstBroken}
 use Rattle.key_core.specs.Verifying.{Judge}
 use Rattle.x509_core.specs.CertType.{IsOfType}
-use Rattle.x509_core.specs.KeptCertificate.{KeptCertificate}
+use Rattle.x509_core.specs.OwnedCertificate.{KeptCertificate}
 use Rattle.x509_core.specs.Link.{IsLink, IsOutside, link_rules}
 use Rattle.x509_core.specs.Window.{IsWithinWindow}
 use Rattle.x509_core.specs.declared.cert_type.CertType.TheVariants as types

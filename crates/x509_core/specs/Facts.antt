@@ -1,4 +1,4 @@
 -- Lemmas about values. No public clause cites this folder.
 pub mod CertificateParts
 pub mod Certs
-pub mod LentKeys
+pub mod BorrowedKeys

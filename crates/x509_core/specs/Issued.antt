@@ -15,7 +15,7 @@ use Rattle.x509_types.specs.declared.certificate.tbs_certificate.TbsCertificate.
 use Rattle.x509_core.specs.CertType.{IsSelfIssued}
 use Rattle.x509_core.specs.Distinct.{AreDistinct}
 use Rattle.x509_core.specs.History.{IssuingStep, History, HasStep, HasIssuer, IsRootStep, IsOrdered, IsValidAt}
-use Rattle.x509_core.specs.KeptCertificate.{KeptCertificate}
+use Rattle.x509_core.specs.OwnedCertificate.{KeptCertificate}
 use Rattle.x509_core.specs.Link.{HasKey, IsSignedBy, signed_octets}
 use Rattle.x509_core.specs.Parent.{AgreeByName}
 use Rattle.x509_core.specs.Window.{IsNotBefore, IsNotAfter}

@@ -3,7 +3,7 @@
 -- Words of the crates above: `Distinct`.
 -- Inside, which no public contract cites: `Facts`.
 pub mod Keyless
-pub mod KeptCertificate
+pub mod OwnedCertificate
 pub mod FirstValue
 pub mod Distinct
 pub mod SaidValues
@@ -17,7 +17,7 @@ pub mod Chain
 pub mod History
 pub mod Issued
 pub mod CertRefusals
-pub mod KeptCertificates
+pub mod OwnedCertificates
 pub mod Spellings
 pub mod CsrErrorText
 pub mod ErrorText

@@ -17,7 +17,7 @@ use Rattle.names_core.specs.declared.name.DirectoryName.{DirectoryName}
 use Rattle.x509_types.specs.CertificateElements.{CertificateElements}
 use Rattle.x509_types.specs.ExtensionParts.{HasCa, HasPathLength}
 use Rattle.x509_types.specs.TbsElements.{tbs_of}
-use Rattle.x509_core.specs.KeptCertificate.{KeptCertificate}
+use Rattle.x509_core.specs.OwnedCertificate.{KeptCertificate}
 use Rattle.x509_core.specs.Parent.{AgreeByKeyAndName, IsNameOf, RefusesParent}
 use Rattle.x509_core.specs.Window.{IsWithinWindow, window_rules}
 use Rattle.x509_core.specs.declared.error.CaChainError.TheVariants as chain

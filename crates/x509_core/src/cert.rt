@@ -20,7 +20,7 @@ ghost use Rattle.x509_types.specs.CertificateElements.{certificate_of};
 ghost use Rattle.x509_types.specs.CertificateView.{IsKnownView, view_elements};
 ghost use Rattle.x509_types.specs.FirstOfValue.{extensions_in};
 ghost use Rattle.x509_types.specs.declared.certificate.Certificate.{Certificate};
-ghost use Rattle.x509_core.specs.KeptCertificate.{HasFields, KeptCertificate, kept_octets, written_elements, written_octets};
+ghost use Rattle.x509_core.specs.OwnedCertificate.{HasFields, KeptCertificate, kept_octets, written_elements, written_octets};
 ghost use Rattle.x509_core.specs.Keyless.{joined};
 ghost use Rattle.x509_core.specs.CertRefusals.{IsUnreadCert, IsUnwrittenCert};
 ghost use Rattle.x509_core.specs.declared.error.CertError.TheVariants as errors;
@@ -59,7 +59,7 @@ impl Drop for Cert {
 }
 
 impl Model for Cert {
-    ghost use Rattle.x509_core.specs.KeptCertificate.{KeptCertificate};
+    ghost use Rattle.x509_core.specs.OwnedCertificate.{KeptCertificate};
     ghost use Rattle.x509_core.specs.Keyless.{joined};
     ghost use Rattle.x509_core.specs.Facts.Certs.{coded_certificates};
 

@@ -6,7 +6,7 @@ ghost use Rattle.der_core.specs.Rules.{IsFirstBroken};
 ghost use Rattle.key_core.specs.Verifying.{Judge};
 ghost use Rattle.x509_types.specs.CertificateElements.{CertificateElements};
 ghost use Rattle.x509_core.specs.Chain.{IsAccepted, chain_rules};
-ghost use Rattle.x509_core.specs.KeptCertificate.{KeptCertificate};
+ghost use Rattle.x509_core.specs.OwnedCertificate.{KeptCertificate};
 ghost use Rattle.x509_core.specs.Link.{IsLink, link_rules};
 ghost use Rattle.x509_core.specs.Window.{IsWithinWindow, IsExpired, window_rules};
 ghost use Rattle.x509_core.specs.declared.error.CertCause.{CertCause};

@@ -8,7 +8,7 @@ ghost use Rattle.x509_core.specs.Chain.{IsAccepted, IsLinkedChain, chain_rules, 
 ghost use Rattle.x509_core.specs.Checks.{checks_at, first_checks};
 ghost use Rattle.x509_core.specs.History.{IssuingStep, History, IsOrdered, IsRootStep, AreIssuers, AreAncestors, AreAllowed, IsValidAt};
 ghost use Rattle.x509_core.specs.Issued.{HasCert, AreCertsAt, IsIssued, IsNext, IsOfValid, IsSealed};
-ghost use Rattle.x509_core.specs.KeptCertificate.{KeptCertificate};
+ghost use Rattle.x509_core.specs.OwnedCertificate.{KeptCertificate};
 ghost use Rattle.x509_core.specs.Link.{signed_octets};
 ghost use Rattle.x509_core.specs.declared.error.CertError.{CertError};
 ghost use Rattle.x509_core.specs.declared.window.DateCheck.TheVariants as dates;

@@ -1,7 +1,7 @@
 //! Reading certificates one after another.
 
 ghost use Rattle.std.specs.Prelude.{map, MatchResult};
-ghost use Rattle.x509_core.specs.KeptCertificates.{AreKeptCertificates, IsFirstUnread};
+ghost use Rattle.x509_core.specs.OwnedCertificates.{AreKeptCertificates, IsFirstUnread};
 
 use crate::cert::Cert;
 use crate::error::CertError;

@@ -7,7 +7,7 @@ ghost use Rattle.der_core.specs.Rules.{OrMemory};
 ghost use Rattle.x509_core.specs.CertType.{IsOfType};
 ghost use Rattle.x509_core.specs.Chain.{YieldsParents, IsAccepted, WasAccepted, WasRefused, AsksForMemory, GivesParent, IsLinkedChain, IsFirstUnlinked, AsksForDate, IsDated, LacksDate, chain_rules, last_of, lent, nearest};
 ghost use Rattle.x509_core.specs.Checks.{checks_at, first_checks, with_not_before, with_not_after, with_chain, with_root};
-ghost use Rattle.x509_core.specs.KeptCertificate.{KeptCertificate};
+ghost use Rattle.x509_core.specs.OwnedCertificate.{KeptCertificate};
 ghost use Rattle.x509_core.specs.Link.{IsLink, IsCountFor, link_rules};
 ghost use Rattle.x509_core.specs.Rules.{RefusesCertBy};
 ghost use Rattle.x509_core.specs.declared.cert_type.CertType.TheVariants as types;

@@ -23,7 +23,7 @@ use Rattle.x509_types.specs.declared.extension.Extension.{Extension}
 use Rattle.x509_types.specs.declared.extension.view.ExtensionView.TheVariants as views
 use Rattle.x509_core.specs.Distinct.{AreDistinct}
 use Rattle.x509_core.specs.FirstValue.{HasFirst}
-use Rattle.x509_core.specs.KeptCertificate.{KeptCertificate}
+use Rattle.x509_core.specs.OwnedCertificate.{KeptCertificate}
 use Rattle.x509_core.specs.Link.{IsSignedBy}
 use Rattle.x509_core.specs.SaidValues.{NamesKey}
 use Rattle.x509_core.specs.declared.error.CertError.{CertError}

@@ -7,8 +7,8 @@ use Rattle.asn1_types.specs.declared.generalized_time.GeneralizedTime.{Generaliz
 use Rattle.asn1_types.specs.declared.oids.TheConstants.{CE_BASIC_CONSTRAINTS, CE_SUBJECT_KEY_IDENTIFIER}
 use Rattle.der_core.specs.DerElement.{DerElement}
 use Rattle.der_core.specs.Facts.Codes.{coded_element}
-use Rattle.der_core.specs.Facts.Placed.{AreDer-prop}
-use Rattle.der_core.specs.Placed.{AreDer}
+use Rattle.der_core.specs.Facts.Borrowed.{AreDer-prop}
+use Rattle.der_core.specs.Borrowed.{AreDer}
 use Rattle.extension_types.specs.declared.basic_constraints.BasicConstraints.{BasicConstraints}
 use Rattle.key_core.specs.Signing.{Signs, Pair, IsKeyPair, arithmetic}
 use Rattle.key_core.specs.Verifying.{Judge}
@@ -30,7 +30,7 @@ use Rattle.x509_core.specs.Facts.CertificateParts.{parts_once, spelled_by}
 use Rattle.x509_core.specs.FirstValue.{HasFirst}
 use Rattle.x509_core.specs.History.{IssuingStep}
 use Rattle.x509_core.specs.Issued.{HasCert, IsRecordedAs, IsCertifiedBy, IsNext}
-use Rattle.x509_core.specs.KeptCertificate.{KeptCertificate}
+use Rattle.x509_core.specs.OwnedCertificate.{KeptCertificate}
 use Rattle.x509_core.specs.Parent.{AgreeByName}
 use Rattle.x509_core.specs.SaidValues.{NamesKey, HasFlag, HasLength, SayTheSame}
 use Rattle.x509_core.specs.Window.{IsNotBefore, IsNotAfter}

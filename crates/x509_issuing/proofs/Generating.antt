@@ -20,7 +20,7 @@ use Rattle.x509_core.specs.declared.csr_error.CsrError.{CsrError}
 use Rattle.x509_issuing.specs.CsrRefusals.{IsUnwrittenCsr, IsUnsigned}
 use Rattle.x509_issuing.specs.Generated.{InfoUnsigned, InfoUnwritten, IsGenerated, IsInfoFor, IsInfoSigned}
 use Rattle.x509_issuing.specs.Generated.{IsInfoWritten, IsRequestFor, IsSignedWhole, RefusesToGenerate, RefusesToMake}
-use Rattle.x509_issuing.specs.KeptRequest.{KeptRequest, kept_request, request_elements}
+use Rattle.x509_issuing.specs.OwnedRequest.{KeptRequest, kept_request, request_elements}
 use Rattle.x509_issuing.specs.SelfSigned.{IsSelfSigned}
 use Rattle.x509_issuing.specs.Facts.Csrs.{info_once}
 

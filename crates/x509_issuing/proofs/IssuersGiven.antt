@@ -13,7 +13,7 @@ use Rattle.x509_types.specs.FirstOfValue.{extensions_in}
 use Rattle.x509_types.specs.declared.extension.Extension.{Extension}
 use Rattle.x509_types.specs.declared.extension.view.ExtensionView.TheVariants as views
 use Rattle.x509_core.specs.FirstValue.{HasFirst}
-use Rattle.x509_core.specs.KeptCertificate.{KeptCertificate}
+use Rattle.x509_core.specs.OwnedCertificate.{KeptCertificate}
 use Rattle.x509_core.proofs.Alike.{say_the_same}
 use Rattle.x509_issuing.specs.IssuedUnder.{IsIdentifiedBy, IsIssuedUnder}
 use Rattle.x509_issuing.specs.declared.builder.CertificateBuilder.{CertificateBuilder}

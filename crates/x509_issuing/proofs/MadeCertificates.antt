@@ -2,7 +2,7 @@
 use Rattle.std.proofs.Common.{◌≡◌, ◌⊎◌, Result, Ok, Err, MatchResult, refl, sym, ap, subst, ◌∙◌, inl, inr}
 use Rattle.der_core.specs.Encoding.{IsDer}
 use Rattle.der_core.specs.Facts.Fronts.{formed_encoding_once}
-use Rattle.der_core.specs.Placed.{AreDer}
+use Rattle.der_core.specs.Borrowed.{AreDer}
 use Rattle.der_core.specs.Refusals.{RefusesInner}
 use Rattle.key_types.specs.declared.key_info.SubjectPublicKeyInfo.{SubjectPublicKeyInfo}
 use Rattle.key_core.specs.SignatureRules.{RefusesSignatureBy}
@@ -18,7 +18,7 @@ use Rattle.x509_types.specs.TbsCertificate.{tbs_certificate, inner_tbs}
 use Rattle.x509_types.specs.declared.certificate.Certificate.{Certificate}
 use Rattle.x509_types.specs.declared.certificate.tbs_certificate.TbsCertificate.{TbsCertificate}
 use Rattle.x509_core.specs.CertRefusals.{IsUnwrittenCert}
-use Rattle.x509_core.specs.KeptCertificate.{KeptCertificate, kept_octets, written_octets, written_elements}
+use Rattle.x509_core.specs.OwnedCertificate.{KeptCertificate, kept_octets, written_octets, written_elements}
 use Rattle.x509_core.specs.declared.error.CertError.{CertError}
 use Rattle.x509_core.specs.declared.error.CertError.TheVariants as errors
 use Rattle.der_core.specs.Refusals.{Wraps}

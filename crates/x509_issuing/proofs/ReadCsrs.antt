@@ -4,15 +4,15 @@ use Rattle.std.proofs.Common.{◌≡◌, ◌↔◌, ℕ, List, Bool, IsTrue, Res
 use Rattle.std.proofs.lemmas.Grind.{merely}
 use Rattle.der_core.specs.DerElement.{DerElement}
 use Rattle.der_core.specs.Encoding.{encoding, IsDer}
-use Rattle.der_core.specs.Kept.{KeptElement}
-use Rattle.der_core.specs.Facts.Kept.{same_kept}
+use Rattle.der_core.specs.Owned.{KeptElement}
+use Rattle.der_core.specs.Facts.Owned.{same_kept}
 use Rattle.der_core.specs.Refusals.{RefusesShape, RefusesOctets}
 use Rattle.der_core.specs.Structure.{IsWithin}
 use Rattle.der_core.specs.declared.error.DerError.{DerError}
 use Rattle.der_core.specs.declared.error.DerError.TheVariants as errors
 use Rattle.x509_issuing.specs.CertificationRequest.{IsRequest}
 use Rattle.x509_issuing.specs.declared.request.CertificationRequest.{CertificationRequest}
-use Rattle.x509_issuing.specs.KeptRequest.{KeptRequest, kept_request, HasInfo}
+use Rattle.x509_issuing.specs.OwnedRequest.{KeptRequest, kept_request, HasInfo}
 use Rattle.x509_issuing.specs.Facts.Csrs.{kept_once}
 
 pub read_whole : (octets : List ℕ) (element : DerElement) (r : Result KeptRequest DerError) → octets ≡ encoding element

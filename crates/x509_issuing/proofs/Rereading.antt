@@ -8,7 +8,7 @@ use Rattle.der_core.specs.declared.error.DerError.{DerError}
 use Rattle.der_core.specs.declared.error.DerError.TheVariants as der
 use Rattle.der_core.proofs.Rereading.{only_memory}
 use Rattle.x509_issuing.specs.CertificationRequest.{IsRequest}
-use Rattle.x509_issuing.specs.KeptRequest.{KeptRequest, kept_request}
+use Rattle.x509_issuing.specs.OwnedRequest.{KeptRequest, kept_request}
 use Rattle.x509_issuing.specs.Facts.Csrs.{kept_once, spelled_around}
 
 pub same_request : (a b : KeptRequest) → encoding (kept_request a) ≡ encoding (kept_request b) → a ≡ b

@@ -13,7 +13,7 @@ use Rattle.x509_issuing.specs.BuildRefusals.{no_request}
 use Rattle.x509_issuing.specs.BuiltCertificate.{IsGivenSubject, IsHalfOf, IsSubjectBy, NameSets}
 use Rattle.x509_issuing.specs.Building.{half_step, other_steps, subject_steps}
 use Rattle.x509_issuing.specs.CsrRefusals.{IsUnsigned}
-use Rattle.x509_issuing.specs.KeptRequest.{KeptRequest}
+use Rattle.x509_issuing.specs.OwnedRequest.{KeptRequest}
 use Rattle.x509_issuing.specs.SelfSigned.{IsSelfSigned, RefusesSelfSigned}
 use Rattle.x509_issuing.specs.declared.builder.CertificateBuilder.{CertificateBuilder}
 use Rattle.x509_issuing.specs.declared.builder.IssuerInfos.{IssuerInfos}

@@ -2,7 +2,7 @@
 use Rattle.std.specs.Prelude.{◌≡◌, ℕ, Bool, true, false, List, [], ◌∷◌, ◌++◌, Option, Some, None, IsSome}
 use Rattle.der_core.specs.DerElement.{DerElement}
 use Rattle.der_core.specs.Encoding.{encoding, IsDer}
-use Rattle.der_core.specs.Placed.{AreDer}
+use Rattle.der_core.specs.Borrowed.{AreDer}
 use Rattle.der_core.specs.Refusals.{RefusesInner}
 use Rattle.asn1_types.specs.Values.{payload_of, unused_of}
 use Rattle.key_types.specs.declared.algorithm.AlgorithmIdentifier.{AlgorithmIdentifier}
@@ -23,7 +23,7 @@ use Rattle.x509_types.specs.TbsCertificate.{tbs_certificate, inner_tbs}
 use Rattle.x509_types.specs.declared.certificate.Certificate.{Certificate}
 use Rattle.x509_types.specs.declared.certificate.tbs_certificate.TbsCertificate.{TbsCertificate}
 use Rattle.x509_core.specs.CertRefusals.{IsUnwrittenCert}
-use Rattle.x509_core.specs.KeptCertificate.{KeptCertificate, written_elements}
+use Rattle.x509_core.specs.OwnedCertificate.{KeptCertificate, written_elements}
 use Rattle.x509_core.specs.Link.{signature_refusal}
 use Rattle.x509_core.specs.declared.error.Arg.{Arg}
 use Rattle.x509_core.specs.declared.error.Arg.TheVariants as arguments
@@ -34,7 +34,7 @@ use Rattle.der_core.specs.Steps.{Step}
 use Rattle.x509_issuing.specs.BuildRefusals.{no_half, no_request, no_key_id, no_octets, no_signature}
 use Rattle.x509_issuing.specs.BuiltCertificate.{IsHalfOf, NameSets, IsSubject, IsBuiltFor, IsTbsFor}
 use Rattle.x509_issuing.specs.CsrRefusals.{IsUnsigned}
-use Rattle.x509_issuing.specs.KeptRequest.{KeptRequest}
+use Rattle.x509_issuing.specs.OwnedRequest.{KeptRequest}
 use Rattle.x509_issuing.specs.SelfSigned.{IsSelfSigned, RefusesSelfSigned}
 use Rattle.x509_issuing.specs.declared.builder.CertificateBuilder.{CertificateBuilder}
 use Rattle.x509_issuing.specs.declared.builder.IssuerInfos.{IssuerInfos}

@@ -1,7 +1,7 @@
 -- A generated request, and why there is none (RFC 2986 4).
 use Rattle.std.specs.Prelude.{◌≡◌, ◌⊎◌, List, Some, true}
 use Rattle.der_core.specs.Encoding.{encoding, IsDer}
-use Rattle.der_core.specs.Placed.{AreDer}
+use Rattle.der_core.specs.Borrowed.{AreDer}
 use Rattle.der_core.specs.Refusals.{RefusesInner}
 use Rattle.asn1_types.specs.Values.{payload_of, unused_of}
 use Rattle.key_types.specs.declared.key_info.SubjectPublicKeyInfo.{SubjectPublicKeyInfo}
@@ -23,7 +23,7 @@ use Rattle.x509_issuing.specs.declared.request.CertificationRequest.{Certificati
 use Rattle.x509_issuing.specs.declared.request_info.CertificationRequestInfo.{CertificationRequestInfo}
 use Rattle.x509_core.specs.declared.csr_error.CsrError.{CsrError}
 use Rattle.x509_issuing.specs.CsrRefusals.{IsUnwrittenCsr, IsUnsigned, IsKeyless}
-use Rattle.x509_issuing.specs.KeptRequest.{KeptRequest, kept_request, info_elements, request_elements}
+use Rattle.x509_issuing.specs.OwnedRequest.{KeptRequest, kept_request, info_elements, request_elements}
 
 -- The CertificationRequestInfo: this name, the public key of this private key, these attributes, a
 -- field that is present even if empty.

@@ -8,7 +8,7 @@ use Rattle.x509_types.specs.FirstOfValue.{extensions_in, NoneHas}
 use Rattle.x509_types.specs.declared.extension.Extension.{Extension}
 use Rattle.x509_types.specs.declared.extension.view.ExtensionView.TheVariants as views
 use Rattle.x509_core.specs.FirstValue.{HasFirst}
-use Rattle.x509_core.specs.KeptCertificate.{KeptCertificate}
+use Rattle.x509_core.specs.OwnedCertificate.{KeptCertificate}
 use Rattle.x509_issuing.specs.declared.builder.CertificateBuilder.{CertificateBuilder}
 
 -- the authority key identifier is that of the first subject key identifier, or as before if there

@@ -4,7 +4,7 @@
 pub mod RequestElements
 pub mod RequestInfo
 pub mod CertificationRequest
-pub mod KeptRequest
+pub mod OwnedRequest
 pub mod CsrRefusals
 pub mod SelfSigned
 pub mod Generated

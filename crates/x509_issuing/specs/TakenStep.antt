@@ -5,7 +5,7 @@ use Rattle.names_core.specs.Names.{sets_of}
 use Rattle.x509_types.specs.ExtensionParts.{HasSubjectKey}
 use Rattle.x509_core.specs.History.{IssuingStep}
 use Rattle.x509_core.specs.Issued.{HasCert}
-use Rattle.x509_core.specs.KeptCertificate.{KeptCertificate}
+use Rattle.x509_core.specs.OwnedCertificate.{KeptCertificate}
 use Rattle.x509_issuing.specs.declared.builder.CertificateBuilder.{CertificateBuilder}
 use Rattle.x509_issuing.specs.declared.builder.IssuerInfos.{IssuerInfos}
 

@@ -17,7 +17,7 @@ ghost use Rattle.x509_issuing.specs.CertificationRequest.{IsRequest, request};
 ghost use Rattle.x509_issuing.specs.declared.request.CertificationRequest.{CertificationRequest};
 ghost use Rattle.x509_core.specs.declared.csr_error.CsrError.TheVariants as errors;
 ghost use Rattle.x509_issuing.specs.CsrRefusals.{IsUnreadCsr, IsUnwrittenCsr};
-ghost use Rattle.x509_issuing.specs.KeptRequest.{HasInfo, KeptRequest, kept_request, request_with, request_elements};
+ghost use Rattle.x509_issuing.specs.OwnedRequest.{HasInfo, KeptRequest, kept_request, request_with, request_elements};
 ghost use Rattle.x509_issuing.specs.Facts.Csrs.{HasInfo-prop};
 
 mod asking;
@@ -68,7 +68,7 @@ impl Drop for Csr {
 }
 
 impl Model for Csr {
-    ghost use Rattle.x509_issuing.specs.KeptRequest.{KeptRequest, request_with};
+    ghost use Rattle.x509_issuing.specs.OwnedRequest.{KeptRequest, request_with};
     ghost use Rattle.x509_issuing.specs.Facts.Csrs.{coded_requests};
 
     ghost Value = { KeptRequest };

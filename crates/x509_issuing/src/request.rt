@@ -103,7 +103,7 @@ impl PartialEq for CertificationRequest {
     ghost use Rattle.std.specs.Cmp.{on_per, partial_equiv_from_equiv};
     ghost use Rattle.std.specs.Prelude.{bytes_eq};
     ghost use Rattle.der_core.specs.Equality.{same_octets};
-    ghost use Rattle.der_core.specs.Placed.{AreDer};
+    ghost use Rattle.der_core.specs.Borrowed.{AreDer};
     ghost use Rattle.x509_issuing.specs.CertificationRequest.{request, inner_of_request, request_octets};
 
     ghost eq = { on (λ value. request_octets value) bytes_eq };

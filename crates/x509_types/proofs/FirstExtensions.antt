@@ -2,9 +2,9 @@
 use Rattle.std.proofs.Common.{◌≡◌, ℕ, List, [], ◌∷◌, ◌++◌, Option, Some, None, MatchOption, refl, sym, ap, subst, ◌∙◌}
 use Rattle.der_core.specs.Optional.{members_of}
 use Rattle.der_core.specs.DerElement.{DerElement, Primitive, Constructed, kids_of}
-use Rattle.der_core.specs.Kept.{IsKept}
-use Rattle.der_core.specs.Lent.{at_option}
-use Rattle.der_core.specs.Facts.Kept.{one_kept}
+use Rattle.der_core.specs.Owned.{IsKept}
+use Rattle.der_core.specs.BorrowedOption.{at_option}
+use Rattle.der_core.specs.Facts.Owned.{one_kept}
 use Rattle.der_core.specs.declared.elem.Elem.{Elem}
 use Rattle.x509_types.specs.CertificateElements.{CertificateElements}
 use Rattle.x509_types.specs.FirstExtension.{extensions_of, IsNamed, NoneIsNamed, IsFirstNamed, IsFirstValue, Says}

@@ -7,7 +7,7 @@ use Rattle.std.proofs.lemmas.Grind.{not_there}
 use Rattle.std.proofs.lemmas.Slice.Eq.{bytes_eq-Decides}
 use Rattle.der_core.specs.DerElement.{DerElement, Primitive}
 use Rattle.der_core.specs.Facts.InBounds.{octets-set}
-use Rattle.der_core.specs.Kept.{IsKept}
+use Rattle.der_core.specs.Owned.{IsKept}
 use Rattle.asn1_types.specs.declared.oids.TheConstants.{CE_EXT_KEY_USAGE}
 use Rattle.x509_types.specs.CertificateElements.{CertificateElements}
 use Rattle.x509_types.specs.FirstExtension.{extensions_of, IsNamed, IsFirstNamed, IsFirstValue, Says}

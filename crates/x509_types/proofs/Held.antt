@@ -2,12 +2,12 @@
 use Rattle.std.proofs.Common.{◌≡◌, ◌↔◌, IsTrue, ℕ, List, Bool, Option, Some, None, MatchOption, sym, subst, ◌∙◌}
 use Rattle.der_core.specs.DerElement.{DerElement}
 use Rattle.der_core.specs.Elements.{sequence}
-use Rattle.der_core.specs.Kept.{IsKept}
+use Rattle.der_core.specs.Owned.{IsKept}
 use Rattle.der_core.specs.Facts.Grammars.{same_fields}
 use Rattle.asn1_types.specs.declared.oids.TheConstants.{CE_EXT_KEY_USAGE}
 use Rattle.x509_types.specs.FirstExtension.{IsNamed}
 use Rattle.x509_types.specs.Purposes.{HasSome, IsPurpose, HoldsPurpose, IsUsage, IsUsageFor}
-use Rattle.der_core.specs.Facts.Kept.{one_kept}
+use Rattle.der_core.specs.Facts.Owned.{one_kept}
 use Rattle.x509_types.proofs.FirstExtensions.{named_once}
 
 -- the element in the octets of an extended key usage is the one that it holds

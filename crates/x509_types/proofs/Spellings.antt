@@ -6,7 +6,7 @@ use Rattle.der_core.specs.Encoding.{encoding}
 use Rattle.der_core.specs.Each.{AreEach, IsListOf}
 use Rattle.der_core.specs.Elements.{sequence, octet_string}
 use Rattle.der_core.specs.Facts.Lists.{printed_list}
-use Rattle.der_core.specs.Kept.{KeptElement}
+use Rattle.der_core.specs.Owned.{KeptElement}
 use Rattle.der_core.specs.Structure.{IsWithin}
 use Rattle.der_core.specs.Default.{IsDefaultFalse}
 use Rattle.asn1_types.specs.Elements.{object_identifier}

@@ -8,8 +8,8 @@ use Rattle.der_core.specs.Elements.{octet_string}
 use Rattle.der_core.specs.Encoding.{IsWellFormed}
 use Rattle.der_core.specs.Each.{IsListOf, IsWrittenList}
 use Rattle.der_core.specs.Equality.{same_octets}
-use Rattle.der_core.specs.Kept.{KeptElement}
-use Rattle.der_core.specs.Placed.{AreDer}
+use Rattle.der_core.specs.Owned.{KeptElement}
+use Rattle.der_core.specs.Borrowed.{AreDer}
 use Rattle.der_core.specs.Refusals.{RefusesInner}
 use Rattle.der_core.specs.Facts.Equality.{pointwise_same, kept_same}
 use Rattle.der_core.specs.Facts.Lists.{lists_equal, plain_list}

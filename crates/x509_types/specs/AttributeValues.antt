@@ -6,7 +6,7 @@ use Rattle.der_core.specs.DerElement.{DerElement}
 use Rattle.der_core.specs.Elements.{octet_string}
 use Rattle.der_core.specs.Encoding.{encoding}
 use Rattle.der_core.specs.Each.{IsListOf, list_element, Prints}
-use Rattle.der_core.specs.Kept.{KeptElement}
+use Rattle.der_core.specs.Owned.{KeptElement}
 use Rattle.asn1_types.specs.Elements.{object_identifier}
 use Rattle.x509_types.specs.Extension.{value_kinds}
 use Rattle.x509_types.specs.TbsCertificate.{IsExtensions, extensions, inner_extensions}

@@ -3,7 +3,7 @@ use Rattle.std.specs.Prelude.{◌≡◌}
 use Rattle.der_core.specs.DerElement.{DerElement}
 use Rattle.der_core.specs.Structure.{Fits}
 use Rattle.x509_types.specs.CertificateElements.{CertificateElements, certificate_of, AreCertificateFields}
-use Rattle.x509_types.specs.LentCertificate.{lent_elements}
+use Rattle.x509_types.specs.BorrowedCertificate.{lent_elements}
 use Rattle.x509_types.specs.declared.certificate.view.CertView.{CertView}
 
 -- the borrowed elements

@@ -3,7 +3,7 @@ use Rattle.std.specs.Prelude.{◌≡◌, ⊤, ℕ, Bool, List, [], ◌∷◌, �
 use Rattle.asn1_types.specs.Elements.{object_identifier_of}
 use Rattle.der_core.specs.Optional.{members_of}
 use Rattle.der_core.specs.DerElement.{DerElement}
-use Rattle.der_core.specs.Kept.{IsKept}
+use Rattle.der_core.specs.Owned.{IsKept}
 use Rattle.x509_types.specs.ExtensionFields.{IsExtensionOf}
 use Rattle.x509_types.specs.CertificateElements.{CertificateElements}
 

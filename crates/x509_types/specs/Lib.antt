@@ -9,12 +9,12 @@ pub mod ExtensionSpellings
 pub mod Version
 pub mod Validity
 pub mod TbsElements
-pub mod LentTbs
+pub mod BorrowedTbs
 pub mod TbsCertificate
 pub mod TbsParts
 pub mod CertificateElements
 pub mod Certificate
-pub mod LentCertificate
+pub mod BorrowedCertificate
 pub mod CertificateView
 pub mod AttributeKind
 pub mod AttributeValues

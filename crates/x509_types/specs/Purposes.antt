@@ -3,7 +3,7 @@ use Rattle.std.specs.Prelude.{◌≡◌, ℕ, List, ◌∷◌, ◌++◌}
 use Rattle.asn1_types.specs.Elements.{object_identifier_of}
 use Rattle.der_core.specs.DerElement.{DerElement}
 use Rattle.der_core.specs.Elements.{sequence}
-use Rattle.der_core.specs.Kept.{IsKept}
+use Rattle.der_core.specs.Owned.{IsKept}
 use Rattle.asn1_types.specs.declared.oids.TheConstants.{CE_EXT_KEY_USAGE}
 use Rattle.x509_types.specs.CertificateElements.{CertificateElements}
 use Rattle.x509_types.specs.FirstExtension.{extensions_of, IsNamed, IsFirstNamed}

@@ -124,7 +124,7 @@ impl PartialEq for Attribute {
     ghost use Rattle.std.specs.Cmp.{on_per, partial_equiv_from_equiv};
     ghost use Rattle.std.specs.Prelude.{bytes_eq};
     ghost use Rattle.der_core.specs.Equality.{same_octets};
-    ghost use Rattle.der_core.specs.Placed.{AreDer};
+    ghost use Rattle.der_core.specs.Borrowed.{AreDer};
     ghost use Rattle.x509_types.specs.AttributeValues.{inner_values};
     ghost use Rattle.x509_types.specs.Attribute.{attribute, attribute_octets};
 

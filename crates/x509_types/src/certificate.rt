@@ -92,7 +92,7 @@ impl PartialEq for Certificate {
     ghost use Rattle.std.specs.Cmp.{on_per, partial_equiv_from_equiv};
     ghost use Rattle.std.specs.Prelude.{bytes_eq};
     ghost use Rattle.der_core.specs.Equality.{same_octets};
-    ghost use Rattle.der_core.specs.Placed.{AreDer};
+    ghost use Rattle.der_core.specs.Borrowed.{AreDer};
     ghost use Rattle.x509_types.specs.Certificate.{certificate, inner_certificate, certificate_octets};
 
     ghost eq = { on (λ value. certificate_octets value) bytes_eq };

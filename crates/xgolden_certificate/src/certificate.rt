@@ -7,8 +7,8 @@
 
 mod both;
 mod details;
-mod kept;
 pub mod measure;
+mod owned;
 mod view;
 
 use std::alloc::Global;

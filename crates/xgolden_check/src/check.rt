@@ -14,9 +14,9 @@
 
 mod asked;
 mod case;
-mod kept;
 mod line;
 mod lists;
+mod owned;
 
 use anyhow::{Result, bail};
 use case::{Case, answer_to_policy, case_of};

@@ -8,7 +8,7 @@ use Rattle.sig_core.specs.Algorithm.{name_of}
 use Rattle.sig_core.specs.declared.scheme.Verdict.TheVariants.{Accept, Reject}
 use Rattle.x509_core.specs.History.{History}
 use Rattle.x509_core.specs.Issued.{HasCert, IsOneOf, IsSealed, IsSignedUnder}
-use Rattle.x509_core.specs.KeptCertificate.{KeptCertificate}
+use Rattle.x509_core.specs.OwnedCertificate.{KeptCertificate}
 use Rattle.x509_types.specs.TbsElements.{tbs_of}
 use Rattle.xtest_issuing.specs.Listed.{AreListed, HasKeyBytes, HaveOwnKeys, IsListed}
 use Rattle.xtest_issuing.specs.WholeRow.{is_row_of, verdict_of}

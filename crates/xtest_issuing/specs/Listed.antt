@@ -6,7 +6,7 @@ use Rattle.key_types.specs.declared.key_info.SubjectPublicKeyInfo.{SubjectPublic
 use Rattle.sig_core.specs.declared.algorithm.SigAlg.{SigAlg}
 use Rattle.x509_core.specs.History.{History}
 use Rattle.x509_core.specs.Issued.{HasCert, IsSignedUnder}
-use Rattle.x509_core.specs.KeptCertificate.{KeptCertificate}
+use Rattle.x509_core.specs.OwnedCertificate.{KeptCertificate}
 use Rattle.x509_core.specs.Link.{HasKey, signed_octets}
 use Rattle.xtest_issuing.specs.declared.whole_rows.WholeRow.{WholeRow}
 

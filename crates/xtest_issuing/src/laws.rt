@@ -3,7 +3,7 @@
 ghost use Rattle.std.specs.Prelude.{List};
 ghost use Rattle.x509_core.specs.History.{History};
 ghost use Rattle.x509_core.specs.Issued.{IsSealed};
-ghost use Rattle.x509_core.specs.KeptCertificate.{KeptCertificate};
+ghost use Rattle.x509_core.specs.OwnedCertificate.{KeptCertificate};
 ghost use Rattle.xtest_issuing.specs.Listed.{AreListed, HaveOwnKeys};
 ghost use Rattle.xtest_issuing.specs.WholeRow.{verdict_of};
 ghost use Rattle.xtest_issuing.specs.declared.whole_rows.WholeRow.{WholeRow};

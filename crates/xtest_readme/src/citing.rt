@@ -20,7 +20,7 @@ ghost use Rattle.trust_anchors.specs.FirstPath.{IsFirstPath};
 ghost use Rattle.trust_anchors.specs.declared.anchor.Anchor.{Anchor};
 ghost use Rattle.trust_anchors.specs.declared.anchor.Purpose.{Purpose};
 ghost use Rattle.trust_anchors.specs.declared.path.AnchoredPath.{AnchoredPath};
-ghost use Rattle.x509_core.specs.KeptCertificate.{KeptCertificate};
+ghost use Rattle.x509_core.specs.OwnedCertificate.{KeptCertificate};
 ghost use Rattle.x509_core.specs.declared.error.CertError.TheVariants as cert_errors;
 
 use crate::of_trust_anchors::{LEAF, certificate};

@@ -3,7 +3,7 @@ use Rattle.std.specs.Prelude.{◌≡◌, ◌⊎◌, ℕ, List, [], ◌∷◌}
 use Rattle.der_core.specs.DerElement.{DerElement}
 use Rattle.x509_types.specs.CertificateElements.{CertificateElements}
 use Rattle.authenticode_core.specs.AuthorityName.{HasAuthorityName, IsNoAuthority}
-use Rattle.authenticode_core.specs.Places.{StandsAt}
+use Rattle.authenticode_core.specs.Indices.{StandsAt}
 
 -- the name after a certificate: its own, or that before it
 abbrev pub IsNextName : DerElement → CertificateElements → DerElement → Type 0

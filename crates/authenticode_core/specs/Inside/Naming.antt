@@ -4,7 +4,7 @@ use Rattle.x509_types.specs.CertificateElements.{CertificateElements}
 use Rattle.x509_types.specs.CertificateView.{view_elements}
 use Rattle.x509_types.specs.Purposes.{HasPurposes}
 use Rattle.authenticode_core.specs.Inside.Wanted.{IsNamedBy, IsWanted}
-use Rattle.authenticode_core.specs.Places.{IsLeastPlace}
+use Rattle.authenticode_core.specs.Indices.{IsLeastPlace}
 use Rattle.authenticode_core.specs.SigningRules.{AsksForPurposes}
 use Rattle.authenticode_core.specs.declared.bag.BagCertificate.{BagCertificate}
 use Rattle.authenticode_core.specs.declared.bag.naming.Named.{Named}

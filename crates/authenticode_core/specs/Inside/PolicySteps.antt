@@ -5,7 +5,7 @@ use Rattle.cms_types.specs.SignedDataElements.{SignedDataElements}
 use Rattle.der_core.specs.Rules.{Rule}
 use Rattle.key_core.specs.Verifying.{Judge}
 use Rattle.names_core.specs.declared.name.DirectoryName.{DirectoryName}
-use Rattle.x509_core.specs.KeptCertificate.{KeptCertificate}
+use Rattle.x509_core.specs.OwnedCertificate.{KeptCertificate}
 use Rattle.x509_core.specs.declared.error.CertCause.{CertCause}
 use Rattle.x509_core.specs.declared.error.CertCause.TheVariants as causes
 use Rattle.x509_core.specs.declared.error.CertError.{CertError}

@@ -9,7 +9,7 @@ ghost use Rattle.authenticode_core.specs.CertificateBag.{IsBag};
 ghost use Rattle.authenticode_core.specs.IssuerWalk.{IsWalkFrom};
 ghost use Rattle.authenticode_core.specs.LeftMembers.{left_members, BeginsBag};
 ghost use Rattle.authenticode_core.specs.Names.{HasSubject};
-ghost use Rattle.authenticode_core.specs.Places.{IsLeastPlace};
+ghost use Rattle.authenticode_core.specs.Indices.{IsLeastPlace};
 ghost use Rattle.authenticode_core.specs.WalkCursor.{LooksFrom, StepsTo};
 
 use crate::bag::wanted::Wanted;

@@ -5,7 +5,7 @@ ghost use Rattle.std.specs.Prelude.{◌≡◌, ◌↔◌, List, IsTrue, IfSome, 
 ghost use Rattle.cms_types.specs.SignedView.{data_elements};
 ghost use Rattle.cms_types.specs.SignerView.{signer_elements_at};
 ghost use Rattle.der_core.specs.DerElement.{DerElement};
-ghost use Rattle.der_core.specs.Lent.{at_option};
+ghost use Rattle.der_core.specs.BorrowedOption.{at_option};
 ghost use Rattle.der_core.specs.Optional.{members_of};
 ghost use Rattle.x509_types.specs.CertificateElements.{CertificateElements, certificate_of};
 ghost use Rattle.x509_types.specs.CertificateView.{view_elements};
@@ -14,7 +14,7 @@ ghost use Rattle.authenticode_core.specs.CertificateBag.{IsBag, IsMember};
 ghost use Rattle.authenticode_core.specs.Inside.Naming.{AsksNext, FindsNext, IsFirstOfName, IsNamedAt};
 ghost use Rattle.authenticode_core.specs.Inside.Wanted.{IsNamedBy, IsWanted};
 ghost use Rattle.authenticode_core.specs.LeftMembers.{left_members};
-ghost use Rattle.authenticode_core.specs.Places.{HasNoPlace, IsLeastPlace};
+ghost use Rattle.authenticode_core.specs.Indices.{HasNoPlace, IsLeastPlace};
 ghost use Rattle.authenticode_core.specs.SignedFields.{IsFirstSigner, signers_of};
 ghost use Rattle.authenticode_core.specs.SigningRules.{AsksForPurposes, IsBagOf, IsSignerCertificate};
 ghost use Rattle.authenticode_core.specs.WalkCursor.{LooksFrom};

@@ -8,7 +8,7 @@ ghost use Rattle.cms_types.specs.UnsignedAttribute.{unsigned_attribute};
 ghost use Rattle.der_core.specs.DerElement.{DerElement};
 ghost use Rattle.der_core.specs.Each.{list_element};
 ghost use Rattle.der_core.specs.Encoding.{encoding};
-ghost use Rattle.der_core.specs.Placed.{AreDer};
+ghost use Rattle.der_core.specs.Borrowed.{AreDer};
 ghost use Rattle.der_core.specs.Steps.{AreTaken, IsFirstUntaken, RefusesBySteps};
 ghost use Rattle.key_core.specs.Signing.{arithmetic};
 ghost use Rattle.key_core.specs.declared.signature_algorithm.SignatureAlgorithm.TheVariants.{RsaPkcs1v15};

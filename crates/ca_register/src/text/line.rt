@@ -1,7 +1,7 @@
 //! A line of a register.
 
 ghost use Rattle.std.specs.Prelude.{◌≡◌, IfOk};
-ghost use Rattle.ca_register.specs.Held.{line_held, line_read};
+ghost use Rattle.ca_register.specs.Owned.{line_held, line_read};
 
 use names_core::UtcDate;
 use std::alloc::{AllocError, Global};

@@ -3,7 +3,7 @@
 ghost use Rattle.std.specs.Prelude.{◌≡◌, ℕ, List, None, Some, IfErr, IfOk, IfSome, MatchResult, map, option_map};
 ghost use Rattle.program_frame.specs.Answering.{StopsForText};
 ghost use Rattle.program_frame.specs.declared.stop.Stop.TheVariants as stops;
-ghost use Rattle.ca_register.specs.Held.{line_held, line_read};
+ghost use Rattle.ca_register.specs.Owned.{line_held, line_read};
 ghost use Rattle.ca_register.specs.Lines.{HasBadLine, IsLimits, IsLine, IsRegisterText, Line, issued_words, keyed_words, limits_words, line_words};
 ghost use Rattle.ca_register.specs.declared.text.line.Limits.{Limits as Limited};
 

@@ -7,7 +7,7 @@ use Rattle.der_core.specs.Encoding.{encoding, IsWellFormed, AreWellFormed}
 use Rattle.der_core.specs.Structure.{IsGrammar}
 use Rattle.der_core.specs.Facts.Fronts.{formed_encoding_once}
 use Rattle.der_core.specs.Facts.Grammars.{printed, same_fields}
-use Rattle.der_core.specs.Facts.Kept.{same_kept}
+use Rattle.der_core.specs.Facts.Owned.{same_kept}
 use Rattle.der_core.specs.Facts.OctetStrings.{octet_strings}
 use Rattle.asn1_types.specs.Values.{identifier_contents}
 use Rattle.asn1_types.specs.Elements.{object_identifier}

@@ -6,11 +6,11 @@ use Rattle.std.proofs.Props.{props}
 use mathlib.Core.Logic.{∥∥₁_elim, ∥∥₁_prop}
 use Rattle.der_core.specs.DerElement.{DerElement, tag_of}
 use Rattle.der_core.specs.Encoding.{encoding}
-use Rattle.der_core.specs.Kept.{KeptElement}
+use Rattle.der_core.specs.Owned.{KeptElement}
 use Rattle.der_core.specs.Structure.{IsGrammar}
 use Rattle.der_core.specs.Facts.Equality.{pointwise_same, octets_same}
 use Rattle.der_core.specs.Facts.Grammars.{printed, same_fields, list_once}
-use Rattle.der_core.specs.Facts.Kept.{same_kept}
+use Rattle.der_core.specs.Facts.Owned.{same_kept}
 use Rattle.der_core.specs.Facts.Lists.{printed_list}
 use Rattle.cms_content.specs.CtlEntry.{ctl_entry}
 use Rattle.cms_content.specs.Ctl.{Begins, MayBegin, IsNothing, FirstNot, IsIntegerElement, IsString, IsPurposeList, IsTime}

@@ -10,7 +10,7 @@ use Rattle.der_core.specs.Each.{list_element}
 use Rattle.der_core.specs.Structure.{IsGrammar}
 use Rattle.der_core.specs.Facts.Equality.{pointwise_same}
 use Rattle.der_core.specs.Facts.Grammars.{printed, lists}
-use Rattle.der_core.specs.Facts.Kept.{same_encoded}
+use Rattle.der_core.specs.Facts.Owned.{same_encoded}
 use Rattle.asn1_types.specs.Elements.{object_identifier}
 use Rattle.asn1_types.specs.Facts.Elements.{identifiers, same_oid}
 use Rattle.asn1_types.specs.Values.{identifier_contents}

@@ -1,8 +1,8 @@
 -- Attributes with an optional value: different ones have different elements, each well formed.
 use Rattle.std.proofs.Common.{◌≡◌, [], ◌∷◌, Option, refl, ap, ◌∙◌, arith}
 use Rattle.std.specs.Prelude.{option_to_list}
-use Rattle.der_core.specs.Kept.{KeptElement}
-use Rattle.der_core.specs.Lent.{kept_option}
+use Rattle.der_core.specs.Owned.{KeptElement}
+use Rattle.der_core.specs.BorrowedOption.{kept_option}
 use Rattle.der_core.specs.Structure.{IsGrammar}
 use Rattle.der_core.specs.Facts.Grammars.{printed, same_fields}
 use Rattle.asn1_types.specs.Elements.{object_identifier}
@@ -10,7 +10,7 @@ use Rattle.asn1_types.specs.Facts.Elements.{identifiers}
 use Rattle.asn1_types.specs.declared.oid.ObjectIdentifier.{ObjectIdentifier}
 use Rattle.cms_content.specs.SpcAttribute.{spc_attribute}
 use Rattle.cms_content.specs.declared.spc_attribute.SpcAttributeTypeAndOptionalValue.{SpcAttributeTypeAndOptionalValue}
-use Rattle.der_core.specs.Facts.Lent.{kept_option_once}
+use Rattle.der_core.specs.Facts.BorrowedOption.{kept_option_once}
 use Rattle.key_types.specs.Facts.Algorithms.{option_formed}
 
 attributes_once : (a b : SpcAttributeTypeAndOptionalValue) → spc_attribute a ≡ spc_attribute b → a ≡ b

@@ -3,10 +3,10 @@ use Rattle.std.proofs.Common.{◌≡◌, ◌≢◌, [], sym, ap, subst, ◌∙�
 use Rattle.std.proofs.Props.{props}
 use Rattle.der_core.specs.DerElement.{tag_of}
 use Rattle.der_core.specs.Encoding.{IsWellFormed}
-use Rattle.der_core.specs.Kept.{KeptElement}
+use Rattle.der_core.specs.Owned.{KeptElement}
 use Rattle.der_core.specs.Structure.{IsGrammar}
 use Rattle.der_core.specs.Facts.Grammars.{printed}
-use Rattle.der_core.specs.Facts.Kept.{same_kept}
+use Rattle.der_core.specs.Facts.Owned.{same_kept}
 use Rattle.cms_types.specs.CertificateChoices.{certificate_choice}
 use Rattle.cms_types.specs.declared.signed_data.raw_certificate.RawCertificate.{RawCertificate}
 use Rattle.cms_types.specs.declared.signed_data.raw_certificate.OtherCertificate.{OtherCertificate}

@@ -6,11 +6,11 @@ use Rattle.std.proofs.Props.{props}
 use Rattle.std.proofs.lemmas.Slice.Eq.{bytes_eq-Decides}
 use mathlib.Core.Logic.{∥∥₁_elim, ∥∥₁_prop}
 use Rattle.der_core.specs.DerElement.{DerElement}
-use Rattle.der_core.specs.Kept.{KeptElement}
+use Rattle.der_core.specs.Owned.{KeptElement}
 use Rattle.der_core.specs.Structure.{IsGrammar}
 use Rattle.der_core.specs.Facts.Grammars.{printed}
 use Rattle.der_core.specs.Facts.Equality.{pointwise_same}
-use Rattle.der_core.specs.Facts.Kept.{same_kept}
+use Rattle.der_core.specs.Facts.Owned.{same_kept}
 use Rattle.x509_types.specs.Attribute.{attribute_octets, AreAttributes}
 use Rattle.x509_types.specs.Facts.Attributes.{attribute_lists, attributes_by_octets}
 use Rattle.x509_types.specs.declared.attribute.Attribute.{Attribute}

@@ -20,7 +20,7 @@
 
 ghost use Rattle.std.specs.Prelude.{◌≢◌, MatchOption};
 ghost use Rattle.der_core.specs.DerElement.{DerElement};
-ghost use Rattle.cms_types.specs.Lent.{signed_data_at};
+ghost use Rattle.cms_types.specs.Borrowed.{signed_data_at};
 ghost use Rattle.cms_types.specs.Levels.{IsSignedDataOf};
 ghost use Rattle.cms_types.specs.SignedDataElements.{SignedDataElements};
 

@@ -2,7 +2,7 @@
 
 ghost use Rattle.std.specs.Prelude.{◌≡◌, IfOk, MatchResult};
 ghost use Rattle.der_core.specs.Refusals.{RefusesShape};
-ghost use Rattle.cms_types.specs.Lent.{signed_data_at};
+ghost use Rattle.cms_types.specs.Borrowed.{signed_data_at};
 ghost use Rattle.cms_types.specs.SignedDataParts.{AreCarriedFields, AreSigned, carried_of, data_of_parts, signed_of};
 
 use crate::list_fields::{copy_list, read_list_option};

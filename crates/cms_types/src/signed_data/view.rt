@@ -1,7 +1,7 @@
 //! Signed data, borrowed.
 
 ghost use Rattle.asn1_types.specs.Elements.{object_identifier_of};
-ghost use Rattle.cms_types.specs.Lent.{signed_data_at};
+ghost use Rattle.cms_types.specs.Borrowed.{signed_data_at};
 ghost use Rattle.cms_types.specs.Levels.{AreSignedDataFields};
 ghost use Rattle.cms_types.specs.SignedDataElements.{signed_data_of};
 ghost use Rattle.cms_types.specs.Signers.{IsSignedData};
@@ -28,7 +28,7 @@ pub struct SignedView<'a> {
 impl<'a> SignedView<'a> {
     ghost use Rattle.std.specs.Prelude.{◌≡◌, ◌≢◌, [], ◌∷◌, MatchOption, Option};
     ghost use Rattle.der_core.specs.DerElement.{DerElement, Primitive};
-    ghost use Rattle.der_core.specs.Lent.{at_option};
+    ghost use Rattle.der_core.specs.BorrowedOption.{at_option};
     ghost use Rattle.cms_content.specs.ContentInfoElements.{content_info_of};
     ghost use Rattle.cms_types.specs.Pkcs7.{pkcs7};
     ghost use Rattle.cms_types.specs.SignedView.{data_elements, IsSignedView};

@@ -27,9 +27,9 @@
 
 ghost use Rattle.std.specs.Prelude.{MatchOption};
 ghost use Rattle.der_core.specs.Each.{IsListOf};
-ghost use Rattle.der_core.specs.Lent.{at_option};
+ghost use Rattle.der_core.specs.BorrowedOption.{at_option};
 ghost use Rattle.der_core.specs.Structure.{Fits};
-ghost use Rattle.cms_types.specs.Lent.{signer_at};
+ghost use Rattle.cms_types.specs.Borrowed.{signer_at};
 ghost use Rattle.cms_types.specs.Levels.{IsSignerOf, OfOption};
 ghost use Rattle.cms_types.specs.SignerElements.{SignerElements};
 

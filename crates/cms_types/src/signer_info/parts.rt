@@ -2,7 +2,7 @@
 
 ghost use Rattle.std.specs.Prelude.{◌≡◌, IfOk, MatchResult};
 ghost use Rattle.der_core.specs.Refusals.{RefusesShape};
-ghost use Rattle.cms_types.specs.Lent.{signer_at};
+ghost use Rattle.cms_types.specs.Borrowed.{signer_at};
 ghost use Rattle.cms_types.specs.SignerParts.{AreSignatureFields, AreSignedByFields, signature_fields, signed_by, signer_of_parts};
 
 use crate::list_fields::{copy_list, read_list_option};

@@ -1,6 +1,6 @@
 //! Signers, borrowed.
 
-ghost use Rattle.cms_types.specs.Lent.{signer_at};
+ghost use Rattle.cms_types.specs.Borrowed.{signer_at};
 ghost use Rattle.cms_types.specs.Levels.{AreSignerFields};
 ghost use Rattle.cms_types.specs.SignerElements.{signer_of};
 ghost use Rattle.cms_types.specs.Signers.{IsSignerInfo};
@@ -24,7 +24,7 @@ impl<'a> SignerView<'a> {
     ghost use Rattle.der_core.specs.DerElement.{Primitive};
     ghost use Rattle.der_core.specs.Encoding.{encoding};
     ghost use Rattle.der_core.specs.Elements.{octet_string};
-    ghost use Rattle.der_core.specs.Lent.{at_option};
+    ghost use Rattle.der_core.specs.BorrowedOption.{at_option};
     ghost use Rattle.cms_types.specs.SignerIdentifier.{issuer_and_serial_number};
     ghost use Rattle.cms_types.specs.SignerInfo.{signer_info};
     ghost use Rattle.cms_types.specs.SignerView.{signer_elements_at, IsSignerView, LendsNamed};

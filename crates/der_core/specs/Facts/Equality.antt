@@ -7,9 +7,9 @@ use Rattle.std.proofs.lemmas.Slice.Eq.{bytes_eq-Decides}
 use Rattle.std.proofs.lemmas.Bool.{and_parts, and_from}
 use Rattle.der_core.specs.DerElement.{DerElement}
 use Rattle.der_core.specs.Encoding.{encoding, IsWellFormed}
-use Rattle.der_core.specs.Kept.{KeptElement}
+use Rattle.der_core.specs.Owned.{KeptElement}
 use Rattle.der_core.specs.Facts.Fronts.{formed_encoding_once}
-use Rattle.der_core.specs.Facts.Kept.{same_encoded, same_kept}
+use Rattle.der_core.specs.Facts.Owned.{same_encoded, same_kept}
 use Rattle.std.specs.Cmp.{IsPartialEquivalence, IsEquivalence, on_per, on_equiv, partial_equiv_from_equiv}
 use Rattle.der_core.specs.Equality.{same_octets}
 

@@ -4,7 +4,7 @@ use Rattle.std.proofs.Common.{sym, ◌∙◌, ap, subst, arith}
 use Rattle.der_core.specs.DerElement.{DerElement, Constructed, row, listed}
 use Rattle.der_core.specs.Facts.Rows.{listed-row}
 use Rattle.der_core.specs.Encoding.{IsTag, IsWellFormed, AreWellFormed, form_bit}
-use Rattle.der_core.specs.Placed.{AreDer}
+use Rattle.der_core.specs.Borrowed.{AreDer}
 use Rattle.der_core.specs.Elements.{sequence}
 use Rattle.der_core.specs.Each.{AreEach, IsListOf, list_element}
 use Rattle.der_core.specs.Structure.{IsGrammar}

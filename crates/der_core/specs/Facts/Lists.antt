@@ -5,7 +5,7 @@ use Rattle.std.specs.Cmp.Lexicographic.{pointwise}
 use Rattle.der_core.specs.DerElement.{DerElement, Constructed, row}
 use Rattle.der_core.specs.Encoding.{IsWellFormed}
 use Rattle.der_core.specs.Each.{AreEach, IsListOf, IsWrittenList, list_element, Prints}
-use Rattle.der_core.specs.Placed.{AreDer}
+use Rattle.der_core.specs.Borrowed.{AreDer}
 use Rattle.der_core.specs.Facts.Equality.{pointwise_same}
 use Rattle.der_core.specs.Refusals.{RefusesShape, RefusesInner}
 use Rattle.der_core.specs.declared.error.DerError.{DerError}

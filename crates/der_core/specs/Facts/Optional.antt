@@ -8,7 +8,7 @@ use Rattle.der_core.specs.DerElement.{DerElement, row}
 use Rattle.der_core.specs.Elements.{optional_explicit, optional_leaf}
 use Rattle.der_core.specs.Encoding.{IsTag, IsWellFormed, AreWellFormed, form_bit}
 use Rattle.der_core.specs.Optional.{SpellsOption, inner_option}
-use Rattle.der_core.specs.Placed.{AreDer}
+use Rattle.der_core.specs.Borrowed.{AreDer}
 use Rattle.der_core.specs.Structure.{BeginsOtherwise}
 use Rattle.der_core.specs.Facts.Fields.{IsField, split}
 

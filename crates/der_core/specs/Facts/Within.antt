@@ -4,7 +4,7 @@ use Rattle.std.proofs.Common.{sym, subst, ◌∙◌}
 use Rattle.der_core.specs.Each.{Prints}
 use Rattle.der_core.specs.DerElement.{DerElement}
 use Rattle.der_core.specs.Encoding.{encoding, IsDer, IsWellFormed}
-use Rattle.der_core.specs.Placed.{AreDer}
+use Rattle.der_core.specs.Borrowed.{AreDer}
 use Rattle.der_core.specs.Structure.{IsWithin, IsGrammar}
 use Rattle.der_core.specs.Facts.Fronts.{formed_encoding_once}
 

@@ -4,11 +4,11 @@ use Rattle.std.specs.Prelude.{option_to_list}
 use Rattle.der_core.specs.DerElement.{DerElement}
 use Rattle.der_core.specs.Encoding.{AreWellFormed}
 use Rattle.der_core.specs.DerElement.{row}
-use Rattle.der_core.specs.Kept.{KeptElement}
-use Rattle.der_core.specs.Lent.{kept_option}
+use Rattle.der_core.specs.Owned.{KeptElement}
+use Rattle.der_core.specs.BorrowedOption.{kept_option}
 use Rattle.der_core.specs.Structure.{IsGrammar, BeginsOtherwise}
 use Rattle.der_core.specs.Facts.Grammars.{printed, same_fields}
-use Rattle.der_core.specs.Facts.Lent.{kept_option_once}
+use Rattle.der_core.specs.Facts.BorrowedOption.{kept_option_once}
 use Rattle.extension_types.specs.AuthorityIssuer.{HasIssuerTag}
 use Rattle.der_core.specs.Elements.{optional_leaf}
 use Rattle.extension_types.specs.AuthorityKeyIdentifier.{authority_key_identifier}

@@ -5,7 +5,7 @@ use Rattle.std.proofs.lemmas.Bool.{cases_eq, ne_eqb}
 use Rattle.der_core.specs.DerElement.{DerElement, Primitive, tag_of}
 use Rattle.der_core.specs.Encoding.{IsDer, IsShort, IsWellFormed, length_octets}
 use Rattle.der_core.specs.Elements.{sequence}
-use Rattle.der_core.specs.Placed.{contents_octets}
+use Rattle.der_core.specs.Borrowed.{contents_octets}
 use Rattle.der_core.specs.Default.{IsBoolean, IsDefaultFalse, boolean, default_false}
 use Rattle.der_core.specs.Structure.{IsGrammar, BeginsOtherwise}
 use Rattle.extension_types.specs.Boolean.{optional_boolean, IsOptionalBoolean}

@@ -2,8 +2,8 @@
 use Rattle.std.proofs.Common.{Option, Some, None}
 use Rattle.std.specs.Coded.{Unit-prop, Coded-set, coded_ℕ}
 use Rattle.der_core.specs.DerElement.{DerElement, tag_of}
-use Rattle.der_core.specs.Kept.{KeptElement}
-use Rattle.der_core.specs.Lent.{kept_option}
+use Rattle.der_core.specs.Owned.{KeptElement}
+use Rattle.der_core.specs.BorrowedOption.{kept_option}
 use Rattle.key_types.specs.declared.algorithm.AlgorithmIdentifier.{AlgorithmIdentifier}
 use Rattle.key_core.specs.PrivateKeyFields.{HaveTag}
 use Rattle.key_core.specs.Agreement.{Agree}

@@ -5,10 +5,10 @@ use Rattle.std.specs.Option.{option_map}
 use Rattle.der_core.specs.DerElement.{Primitive, row}
 use Rattle.der_core.specs.Elements.{optional_leaf}
 use Rattle.der_core.specs.Encoding.{encoding, IsWellFormed, AreWellFormed}
-use Rattle.der_core.specs.Kept.{KeptElement}
-use Rattle.der_core.specs.Lent.{kept_option}
+use Rattle.der_core.specs.Owned.{KeptElement}
+use Rattle.der_core.specs.BorrowedOption.{kept_option}
 use Rattle.der_core.specs.Structure.{IsGrammar}
-use Rattle.der_core.specs.Facts.Kept.{same_kept}
+use Rattle.der_core.specs.Facts.Owned.{same_kept}
 use Rattle.asn1_types.specs.Values.{bit_string_contents}
 use Rattle.asn1_types.specs.Elements.{bit_string}
 use Rattle.asn1_types.specs.Facts.Elements.{bit_strings}

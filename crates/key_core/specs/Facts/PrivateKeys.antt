@@ -5,7 +5,7 @@ use Rattle.std.specs.Option.{option_map}
 use Rattle.der_core.specs.DerElement.{row}
 use Rattle.der_core.specs.Elements.{optional_leaf}
 use Rattle.der_core.specs.Encoding.{IsWellFormed, AreWellFormed}
-use Rattle.der_core.specs.Lent.{kept_option}
+use Rattle.der_core.specs.BorrowedOption.{kept_option}
 use Rattle.der_core.specs.Facts.Grammars.{same_fields}
 use Rattle.asn1_types.specs.Values.{bit_string_contents}
 use Rattle.asn1_types.specs.declared.bit_string.BitString.{BitString}

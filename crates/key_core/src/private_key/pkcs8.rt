@@ -5,7 +5,7 @@ ghost use Rattle.asn1_types.specs.Elements.{object_identifier};
 ghost use Rattle.asn1_types.specs.Values.{identifier_contents};
 ghost use Rattle.asn1_types.specs.declared.oid.ObjectIdentifier.{ObjectIdentifier};
 ghost use Rattle.der_core.specs.Encoding.{encoding};
-ghost use Rattle.der_core.specs.Lent.{kept_option};
+ghost use Rattle.der_core.specs.BorrowedOption.{kept_option};
 ghost use Rattle.key_types.specs.AlgorithmIdentifier.{parameters_of};
 ghost use Rattle.key_core.specs.CurveKeys.{IsCurveKey};
 ghost use Rattle.key_core.specs.DerivedKeys.{IsEdOf, IsEdKeyOf, IsEcRefusal, IsEdRefusal};

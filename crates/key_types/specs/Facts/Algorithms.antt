@@ -3,11 +3,11 @@ use Rattle.std.proofs.Common.{◌≡◌, [], ◌∷◌, Option, Some, None, refl
 use Rattle.std.specs.Prelude.{option_to_list}
 use Rattle.der_core.specs.DerElement.{row}
 use Rattle.der_core.specs.Encoding.{AreWellFormed}
-use Rattle.der_core.specs.Kept.{KeptElement}
-use Rattle.der_core.specs.Lent.{kept_option}
+use Rattle.der_core.specs.Owned.{KeptElement}
+use Rattle.der_core.specs.BorrowedOption.{kept_option}
 use Rattle.der_core.specs.Structure.{IsGrammar}
 use Rattle.der_core.specs.Facts.Grammars.{printed, same_fields}
-use Rattle.der_core.specs.Facts.Lent.{kept_option_once}
+use Rattle.der_core.specs.Facts.BorrowedOption.{kept_option_once}
 use Rattle.asn1_types.specs.Elements.{object_identifier, integer}
 use Rattle.asn1_types.specs.Facts.Elements.{identifiers, integers}
 use Rattle.asn1_types.specs.declared.oid.ObjectIdentifier.{ObjectIdentifier}

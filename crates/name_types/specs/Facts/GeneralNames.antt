@@ -4,10 +4,10 @@ use base.Stored.{Coded}
 use Rattle.der_core.specs.Facts.Codes.{stored, stored_inj}
 use Rattle.der_core.specs.DerElement.{DerElement, Primitive, tag_of}
 use Rattle.der_core.specs.Encoding.{IsWellFormed}
-use Rattle.der_core.specs.Kept.{KeptElement}
+use Rattle.der_core.specs.Owned.{KeptElement}
 use Rattle.der_core.specs.Structure.{IsGrammar}
 use Rattle.der_core.specs.Facts.Grammars.{printed, printed_lists, list_once}
-use Rattle.der_core.specs.Facts.Kept.{same_kept}
+use Rattle.der_core.specs.Facts.Owned.{same_kept}
 use Rattle.asn1_types.specs.Elements.{object_identifier}
 use Rattle.asn1_types.specs.Facts.Elements.{identifiers, same_oid, same_ia5}
 use Rattle.asn1_types.specs.Values.{ia5_contents, identifier_contents}

@@ -7,9 +7,9 @@ use Rattle.der_core.specs.Facts.Codes.{stored, stored_inj}
 use Rattle.der_core.specs.DerElement.{DerElement, tag_of}
 use Rattle.der_core.specs.Encoding.{IsWellFormed}
 use Rattle.der_core.specs.Structure.{IsGrammar}
-use Rattle.der_core.specs.Kept.{KeptElement}
+use Rattle.der_core.specs.Owned.{KeptElement}
 use Rattle.der_core.specs.Facts.Grammars.{printed, printed_lists, list_once}
-use Rattle.der_core.specs.Facts.Kept.{same_kept}
+use Rattle.der_core.specs.Facts.Owned.{same_kept}
 use Rattle.asn1_types.specs.Elements.{object_identifier, ia5_string}
 use Rattle.asn1_types.specs.Facts.Elements.{identifiers, ia5_strings}
 use Rattle.asn1_types.specs.declared.oid.ObjectIdentifier.{ObjectIdentifier}

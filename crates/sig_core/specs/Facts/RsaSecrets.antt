@@ -9,7 +9,7 @@ use Rattle.asn1_types.specs.Integer.{IsInteger}
 use Rattle.der_core.specs.declared.fault.DerFault.{DerFault}
 use Rattle.der_core.specs.declared.fault.DerFault.TheVariants.{Truncated}
 use Rattle.der_core.specs.Encoding.{length_octets, framed, encoding}
-use Rattle.der_core.specs.Placed.{contents_octets}
+use Rattle.der_core.specs.Borrowed.{contents_octets}
 use Rattle.der_core.specs.Facts.Fronts.{length_again}
 use Rattle.der_core.specs.Head.{length_at}
 use Rattle.sig_core.specs.RsaSecret.{RsaNumbers, rsa_private_element, IsRsaSecret}

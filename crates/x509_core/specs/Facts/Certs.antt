@@ -10,7 +10,7 @@ use Rattle.der_core.specs.Facts.Codes.{stored, stored_inj, coded_element}
 use Rattle.der_core.specs.Facts.InBounds.{IsDerWithin-prop}
 use Rattle.x509_types.specs.CertificateElements.{CertificateElements, certificate_of, AreCertificateFields}
 use Rattle.x509_types.specs.declared.certificate.Certificate.{Certificate}
-use Rattle.x509_core.specs.KeptCertificate.{KeptCertificate, IsAround, HasFields}
+use Rattle.x509_core.specs.OwnedCertificate.{KeptCertificate, IsAround, HasFields}
 use Rattle.x509_core.specs.Facts.CertificateParts.{parts_once, value_once}
 
 spelled-prop : (f : CertificateElements) (c : Certificate) → IsProp (∥ AreCertificateFields f c ∥₁)

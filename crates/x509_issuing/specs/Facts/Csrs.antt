@@ -16,7 +16,7 @@ use Rattle.x509_issuing.specs.RequestInfo.{IsRequestInfo}
 use Rattle.x509_issuing.specs.CertificationRequest.{IsRequest, request_of, request_octets}
 use Rattle.x509_issuing.specs.Facts.Requests.{requests, requests_by_octets}
 use Rattle.x509_issuing.specs.declared.request.CertificationRequest.{CertificationRequest}
-use Rattle.x509_issuing.specs.KeptRequest.{KeptRequest, kept_request, IsAroundInfo, HasInfo}
+use Rattle.x509_issuing.specs.OwnedRequest.{KeptRequest, kept_request, IsAroundInfo, HasInfo}
 
 same_element : (a b : DerElement) → IsProp (a ≡ b)
 same_element a b = Coded-set coded_element a b

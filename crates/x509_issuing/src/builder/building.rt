@@ -14,7 +14,7 @@ ghost use Rattle.x509_core.specs.Distinct.{AreDistinct};
 ghost use Rattle.x509_core.specs.FirstValue.{HasFirst};
 ghost use Rattle.x509_core.specs.History.{IssuingStep};
 ghost use Rattle.x509_core.specs.Issued.{IsNext};
-ghost use Rattle.x509_core.specs.KeptCertificate.{KeptCertificate};
+ghost use Rattle.x509_core.specs.OwnedCertificate.{KeptCertificate};
 ghost use Rattle.x509_core.specs.Link.{IsSignedBy, signature_refusal as algorithm_refusal};
 ghost use Rattle.x509_core.specs.declared.error.CertError.{CertError};
 ghost use Rattle.x509_core.specs.declared.error.CertError.TheVariants as errors;

@@ -2,7 +2,7 @@
 
 ghost use Rattle.std.specs.Prelude.{◌≡◌, ◌⊎◌, IfOk, MatchResult};
 ghost use Rattle.der_core.specs.Encoding.{IsDer};
-ghost use Rattle.der_core.specs.Placed.{AreDer};
+ghost use Rattle.der_core.specs.Borrowed.{AreDer};
 ghost use Rattle.der_core.specs.Refusals.{RefusesInner, Wraps};
 ghost use Rattle.der_core.specs.Rules.{OrMemory};
 ghost use Rattle.der_core.specs.Steps.{RefusesBySteps};

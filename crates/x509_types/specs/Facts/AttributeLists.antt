@@ -5,12 +5,12 @@ use Rattle.der_core.specs.DerElement.{DerElement}
 use Rattle.der_core.specs.Elements.{octet_string}
 use Rattle.der_core.specs.Encoding.{encoding, IsWellFormed}
 use Rattle.der_core.specs.Each.{IsListOf, list_element, Prints}
-use Rattle.der_core.specs.Kept.{KeptElement}
-use Rattle.der_core.specs.Placed.{AreDer}
+use Rattle.der_core.specs.Owned.{KeptElement}
+use Rattle.der_core.specs.Borrowed.{AreDer}
 use Rattle.der_core.specs.Structure.{IsGrammar}
 use Rattle.der_core.specs.Facts.Fronts.{formed_encoding_once}
 use Rattle.der_core.specs.Facts.Grammars.{printed, lists, list_once}
-use Rattle.der_core.specs.Facts.Kept.{same_kept}
+use Rattle.der_core.specs.Facts.Owned.{same_kept}
 use Rattle.der_core.specs.Facts.Lists.{list_printed}
 use Rattle.der_core.specs.Facts.OctetStrings.{octet_strings}
 use Rattle.asn1_types.specs.Elements.{object_identifier}

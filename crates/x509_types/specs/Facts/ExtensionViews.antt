@@ -8,7 +8,7 @@ use base.Stored.{Coded, gnum, num}
 use Rattle.der_core.specs.Each.{Prints}
 use Rattle.der_core.specs.DerElement.{DerElement}
 use Rattle.der_core.specs.Encoding.{encoding}
-use Rattle.der_core.specs.Placed.{AreDer}
+use Rattle.der_core.specs.Borrowed.{AreDer}
 use Rattle.der_core.specs.Structure.{IsWithin, FitsWithin, IsGrammar}
 use Rattle.der_core.specs.Refusals.{RefusesShape}
 use Rattle.der_core.specs.declared.error.DerError.{DerError}

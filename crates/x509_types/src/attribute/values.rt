@@ -2,7 +2,7 @@
 
 ghost use Rattle.std.specs.Prelude.{◌≡◌, ◌↔◌, false, IfOk, IsTrue, MatchResult};
 ghost use Rattle.der_core.specs.Encoding.{IsWellFormed};
-ghost use Rattle.der_core.specs.Placed.{AreDer};
+ghost use Rattle.der_core.specs.Borrowed.{AreDer};
 ghost use Rattle.der_core.specs.Refusals.{RefusesShape, RefusesInner};
 ghost use Rattle.x509_types.specs.AttributeValues.{kind_of_values, attribute_values, inner_values, AreValuesOf};
 ghost use Rattle.x509_types.specs.declared.attribute.values.AttributeValues.{AttributeValues};

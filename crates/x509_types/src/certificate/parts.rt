@@ -5,7 +5,7 @@ ghost use Rattle.std.specs.Coded.{Coded-set};
 ghost use Rattle.der_core.specs.DerElement.{Primitive};
 ghost use Rattle.der_core.specs.Facts.Codes.{coded_element};
 ghost use Rattle.x509_types.specs.CertificateFields.{unused_bits};
-ghost use Rattle.x509_types.specs.LentTbs.{elements_at};
+ghost use Rattle.x509_types.specs.BorrowedTbs.{elements_at};
 ghost use Rattle.x509_types.specs.TbsElements.{tbs_of};
 
 use crate::AlgorithmIdentifier;
@@ -31,7 +31,7 @@ impl<'a> CertParts<'a> {
     ghost use Rattle.std.specs.Prelude.{◌≢◌, MatchOption};
     ghost use Rattle.der_core.specs.Structure.{Fits};
     ghost use Rattle.x509_types.specs.CertificateElements.{CertificateElements, certificate_of, AreCertificateFields};
-    ghost use Rattle.x509_types.specs.LentCertificate.{lent_elements};
+    ghost use Rattle.x509_types.specs.BorrowedCertificate.{lent_elements};
     ghost use Rattle.x509_types.specs.declared.certificate.Certificate.{Certificate};
 
     /// The parts of the element. Only heads are read.

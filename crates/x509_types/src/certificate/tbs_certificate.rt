@@ -1,7 +1,7 @@
 //! The signed part of a certificate.
 
 ghost use Rattle.std.specs.Prelude.{◌≡◌, ◌↔◌, IsTrue};
-ghost use Rattle.der_core.specs.Placed.{AreDer};
+ghost use Rattle.der_core.specs.Borrowed.{AreDer};
 
 use crate::certificate::tbs_fields::{
     EXTENSIONS, ISSUER_UNIQUE_ID, SUBJECT_UNIQUE_ID, TbsFields, VERSION,

@@ -35,7 +35,7 @@ ghost use Rattle.der_core.specs.Structure.{Fits};
 ghost use Rattle.asn1_types.specs.Values.{integer_contents};
 ghost use Rattle.asn1_types.specs.declared.integer.IntegerAsn1.{IntegerAsn1};
 ghost use Rattle.x509_types.specs.TbsElements.{TbsElements, tbs_of};
-ghost use Rattle.x509_types.specs.LentTbs.{elements_at};
+ghost use Rattle.x509_types.specs.BorrowedTbs.{elements_at};
 ghost use Rattle.x509_types.specs.TbsCertificate.{AreTbsFields};
 
 use crate::certificate::tbs_certificate::TbsCertificate;

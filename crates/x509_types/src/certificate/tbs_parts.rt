@@ -2,7 +2,7 @@
 
 ghost use Rattle.std.specs.Prelude.{◌≡◌, IfOk, MatchResult};
 ghost use Rattle.der_core.specs.Refusals.{RefusesShape};
-ghost use Rattle.x509_types.specs.LentTbs.{elements_at};
+ghost use Rattle.x509_types.specs.BorrowedTbs.{elements_at};
 ghost use Rattle.x509_types.specs.TbsParts.{IsIssuedBy, IsIssuedTo, AreAdded, issued_by, issued_to, added_fields, tbs_of_parts};
 
 use crate::certificate::tbs_certificate::TbsCertificate;

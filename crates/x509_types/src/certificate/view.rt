@@ -5,7 +5,7 @@ ghost use Rattle.der_core.specs.Structure.{Fits};
 ghost use Rattle.x509_types.specs.CertificateElements.{AreCertificateFields};
 ghost use Rattle.x509_types.specs.FirstExtension.{extensions_of};
 ghost use Rattle.x509_types.specs.FoundExtensions.{AreFound};
-ghost use Rattle.x509_types.specs.LentCertificate.{lent_elements};
+ghost use Rattle.x509_types.specs.BorrowedCertificate.{lent_elements};
 
 mod extensions;
 mod inner_fields;
@@ -32,7 +32,7 @@ impl<'a> CertView<'a> {
     ghost use Rattle.std.specs.Option.{option_copied, option_map};
     ghost use Rattle.asn1_types.specs.Elements.{time};
     ghost use Rattle.der_core.specs.Encoding.{encoding};
-    ghost use Rattle.der_core.specs.Lent.{at_option};
+    ghost use Rattle.der_core.specs.BorrowedOption.{at_option};
     ghost use Rattle.x509_types.specs.Certificate.{IsCertificate};
     ghost use Rattle.x509_types.specs.CertificateFields.{not_before_of, not_after_of, key_algorithm_of, key_octets_of};
     ghost use Rattle.x509_types.specs.CertificateView.{IsCertView, IsKnownView, view_elements};

@@ -2,7 +2,7 @@
 
 ghost use Rattle.std.specs.Prelude.{◌≡◌, ◌∷◌, [], List, ℕ, MatchOption, bytes_eq};
 ghost use Rattle.der_core.specs.DerElement.{DerElement};
-ghost use Rattle.der_core.specs.Lent.{at_option};
+ghost use Rattle.der_core.specs.BorrowedOption.{at_option};
 ghost use Rattle.der_core.specs.Optional.{members_of};
 ghost use Rattle.x509_types.specs.FirstExtension.{IsNamed};
 ghost use Rattle.x509_types.specs.FoundExtensions.{AreFound, found_or};

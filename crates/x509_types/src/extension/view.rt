@@ -1,7 +1,7 @@
 //! The values of extensions, and their kinds.
 
 ghost use Rattle.std.specs.Prelude.{◌≡◌, ◌↔◌, false, bytes_eq, IfOk, IsTrue, MatchOption, MatchResult};
-ghost use Rattle.der_core.specs.Placed.{AreDer};
+ghost use Rattle.der_core.specs.Borrowed.{AreDer};
 ghost use Rattle.der_core.specs.Refusals.{RefusesShape, RefusesInner};
 ghost use Rattle.der_core.specs.Structure.{IsWithin};
 ghost use Rattle.der_core.specs.declared.error.DerError.TheVariants as errors;

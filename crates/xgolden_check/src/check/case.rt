@@ -2,9 +2,9 @@
 
 use crate::change::changed;
 use crate::check::asked::{Asked, asked_of, policy_of};
-use crate::check::kept::kept_line;
 use crate::check::line::{answer_line, unread_line};
 use crate::check::lists::list_octets;
+use crate::check::owned::kept_line;
 use anyhow::Result;
 use authenticode_core::{CertificateTrustList, Policy, check_wincert};
 use sig_core::VerdictTable;

@@ -1,6 +1,6 @@
 use Rattle.std.proofs.Common.{sym, subst}
 use Rattle.x509_types.specs.CertificateElements.{CertificateElements}
-use Rattle.authenticode_core.specs.Places.{StandsAt}
+use Rattle.authenticode_core.specs.Indices.{StandsAt}
 use Rattle.authenticode_core.proofs.excuse.expect_linked.Goals as goal
 
 pub returns-in-Ok : goal.returns-in-Ok

@@ -1,5 +1,5 @@
 use Rattle.std.proofs.lemmas.Result.{err_from_is_err_and}
-use Rattle.authenticode_core.proofs.LinkedPlaces.{linked_token, unlinked_token}
+use Rattle.authenticode_core.proofs.LinkedIndices.{linked_token, unlinked_token}
 use Rattle.authenticode_core.proofs.path.expect_linked_token.Goals as goal
 
 pub returns-in_err-linked_places : goal.returns-in_err-linked_places

@@ -1,5 +1,5 @@
 use Rattle.std.proofs.lemmas.Result.{err_from_is_err_and}
-use Rattle.authenticode_core.proofs.LinkedPlaces.{no_link}
+use Rattle.authenticode_core.proofs.LinkedIndices.{no_link}
 use Rattle.authenticode_core.proofs.path.linked_parent.Goals as goal
 
 pub returns-in_err-expect_link : goal.returns-in_err-expect_link

@@ -1,4 +1,4 @@
-use Rattle.authenticode_core.proofs.LinkedPlaces.{vouched}
+use Rattle.authenticode_core.proofs.LinkedIndices.{vouched}
 use Rattle.authenticode_core.proofs.path.linked_path.Goals as goal
 
 pub returns : goal.returns

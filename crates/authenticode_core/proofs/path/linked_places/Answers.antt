@@ -1,5 +1,5 @@
 use Rattle.std.proofs.lemmas.Result.{err_from_is_err_and}
-use Rattle.authenticode_core.proofs.LinkedPlaces.{linked_none, linked_all, unlinked, linked_on}
+use Rattle.authenticode_core.proofs.LinkedIndices.{linked_none, linked_all, unlinked, linked_on}
 use Rattle.authenticode_core.proofs.path.linked_places.Goals as goal
 
 pub loop-next-init : goal.loop-next-init

@@ -1,7 +1,7 @@
 use Rattle.std.proofs.Common.{ℕ, List, length}
 use Rattle.x509_types.specs.CertificateElements.{CertificateElements}
 use Rattle.authenticode_core.specs.OthersCursor.{AreLeft, unread_members}
-use Rattle.authenticode_core.proofs.LinkedPlaces.{Linked}
+use Rattle.authenticode_core.proofs.LinkedIndices.{Linked}
 use Rattle.authenticode_core.proofs.path.linked_places.Given as goal
 
 -- the certificates at the indices so far are linked, and the others are left

@@ -1,6 +1,6 @@
 use Rattle.std.proofs.Common.{◌∙◌}
 use Rattle.x509_types.specs.CertificateView.{view_elements}
-use Rattle.x509_core.specs.Facts.LentKeys.{lent_key}
+use Rattle.x509_core.specs.Facts.BorrowedKeys.{lent_key}
 use Rattle.authenticode_core.proofs.AcceptedSignatures.{signed_by, refused_under}
 use Rattle.authenticode_core.proofs.signature.expect_signature.Goals as goal
 

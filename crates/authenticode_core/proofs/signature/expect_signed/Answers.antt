@@ -1,6 +1,6 @@
 use Rattle.std.proofs.Common.{ap, ◌∙◌}
 use Rattle.std.proofs.lemmas.Result.{err_from_is_err_and}
-use Rattle.der_core.specs.Placed.{contents_octets}
+use Rattle.der_core.specs.Borrowed.{contents_octets}
 use Rattle.authenticode_core.proofs.SigningOrder.{no_certificate, unknown, unaccepted, unbound, may_not, is_signed}
 use Rattle.authenticode_core.proofs.signature.expect_signed.Goals as goal
 

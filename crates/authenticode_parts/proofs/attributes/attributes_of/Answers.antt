@@ -2,7 +2,7 @@ use Rattle.std.proofs.Common.{[], ◌∷◌}
 use Rattle.std.proofs.lemmas.Result.{err_from_is_err_and}
 use Rattle.authenticode_parts.specs.MadeContent.{program_attributes}
 use Rattle.authenticode_parts.specs.MadeSignature.{attributes_element}
-use Rattle.authenticode_parts.proofs.KeptAttributes.{listed_or_refused}
+use Rattle.authenticode_parts.proofs.OwnedAttributes.{listed_or_refused}
 use Rattle.authenticode_parts.proofs.attributes.attributes_of.Goals as goal
 use Rattle.cms_types.specs.OpusInfo.{opus_info}
 use Rattle.der_core.proofs.Inner.{refuses_before}

@@ -5,7 +5,7 @@ use Rattle.der_core.specs.Writing.{RefusesToWrite}
 use Rattle.der_core.proofs.Inner.{refuses_alone, refuses_before, refuses_last}
 use Rattle.x509_types.specs.Attribute.{attribute, inner_attributes}
 use Rattle.authenticode_parts.specs.MadeSignature.{attributes_element}
-use Rattle.authenticode_parts.proofs.KeptAttributes.{kept_or_refused}
+use Rattle.authenticode_parts.proofs.OwnedAttributes.{kept_or_refused}
 use Rattle.authenticode_parts.proofs.attributes.keep_attributes.Goals as goal
 
 pub returns-in_err-tree : goal.returns-in_err-tree

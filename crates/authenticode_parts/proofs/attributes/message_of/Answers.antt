@@ -2,7 +2,7 @@ use Rattle.std.proofs.Common.{◌≡◌, ℕ, List, ap, ◌∙◌}
 use Rattle.std.proofs.Math.ListN.{set as put}
 use Rattle.authenticode_parts.proofs.attributes.message_of.Goals as goal
 use Rattle.der_core.specs.Encoding.{encoding}
-use Rattle.der_core.specs.Kept.{KeptElement}
+use Rattle.der_core.specs.Owned.{KeptElement}
 
 pub returns : goal.returns
 returns c = λ members same.

@@ -1,5 +1,5 @@
 use Rattle.std.proofs.Common.{sym, ◌∙◌}
-use Rattle.der_core.specs.Facts.Kept.{same_encoded}
+use Rattle.der_core.specs.Facts.Owned.{same_encoded}
 use Rattle.x509_types.specs.CertificateElements.{certificate_of}
 use Rattle.authenticode_parts.proofs.carrying.member_of.Goals as goal
 

@@ -1,6 +1,6 @@
 use Rattle.std.proofs.Common.{◌≡◌, ap, sym, ◌∙◌}
-use Rattle.der_core.specs.Facts.Kept.{same_encoded}
-use Rattle.der_core.specs.Placed.{contents_octets}
+use Rattle.der_core.specs.Facts.Owned.{same_encoded}
+use Rattle.der_core.specs.Borrowed.{contents_octets}
 use Rattle.cms_content.specs.IndirectData.{indirect_data_content}
 use Rattle.sig_core.specs.Digest.{digest_of}
 use Rattle.authenticode_parts.proofs.content.digest_of_content.Goals as goal

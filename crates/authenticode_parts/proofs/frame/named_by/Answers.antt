@@ -1,5 +1,5 @@
 use Rattle.std.proofs.Common.{◌∙◌}
-use Rattle.authenticode_parts.proofs.KeptNames.{names_it}
+use Rattle.authenticode_parts.proofs.OwnedNames.{names_it}
 use Rattle.authenticode_parts.proofs.frame.named_by.Goals as goal
 
 pub returns : goal.returns

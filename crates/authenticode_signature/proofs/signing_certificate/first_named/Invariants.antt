@@ -1,5 +1,5 @@
 use Rattle.authenticode_parts.specs.Carried.{elements_of}
-use Rattle.authenticode_core.specs.Places.{HasNoPlaceBetween}
+use Rattle.authenticode_core.specs.Indices.{HasNoPlaceBetween}
 use Rattle.authenticode_core.specs.BagSigner.{HasIssuerAndSerial}
 use Rattle.authenticode_signature.proofs.signing_certificate.first_named.Given as goal
 

@@ -1,5 +1,5 @@
 use Rattle.std.proofs.Common.{map}
-use Rattle.ca_register.specs.Held.{line_held}
+use Rattle.ca_register.specs.Owned.{line_held}
 use Rattle.ca_register.proofs.Answered.{issued_count}
 use Rattle.ca_register.proofs.answering.answer_of.Goals as goal
 

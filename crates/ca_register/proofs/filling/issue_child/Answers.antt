@@ -2,7 +2,7 @@ use Rattle.std.proofs.Common.{◌+◌, map, arith}
 use Rattle.key_core.specs.Keys.{info_of}
 use Rattle.key_core.specs.PrivatePkcs1.{IsPrivatePkcs1}
 use Rattle.key_core.specs.declared.private_key.PrivateKey.{PrivateKey}
-use Rattle.ca_register.specs.Held.{line_held}
+use Rattle.ca_register.specs.Owned.{line_held}
 use Rattle.sig_core.specs.DemoScheme.{demo_verdict}
 use Rattle.ca_register.specs.LineKeys.{AreLineKeys, key_secret}
 use Rattle.ca_register.proofs.Fillings.{child_filled, child_unfilled, line_at, ok_holds}

@@ -1,6 +1,6 @@
 use Rattle.std.proofs.Common.{◌+◌, map, arith}
 use Rattle.key_core.specs.PrivatePkcs1.{IsPrivatePkcs1}
-use Rattle.ca_register.specs.Held.{line_held}
+use Rattle.ca_register.specs.Owned.{line_held}
 use Rattle.ca_register.specs.Lines.{IsLine}
 use Rattle.sig_core.specs.DemoScheme.{demo_verdict}
 use Rattle.ca_register.specs.LineKeys.{key_secret}

@@ -1,5 +1,5 @@
 use Rattle.std.proofs.Common.{map}
-use Rattle.ca_register.specs.Held.{line_held}
+use Rattle.ca_register.specs.Owned.{line_held}
 use Rattle.ca_register.proofs.Fillings.{no_lines}
 use Rattle.ca_register.proofs.filling.register_of.Goals as goal
 

@@ -1,5 +1,5 @@
 use Rattle.std.proofs.Common.{map, take}
-use Rattle.ca_register.specs.Held.{line_held}
+use Rattle.ca_register.specs.Owned.{line_held}
 use Rattle.ca_register.specs.Filling.{IsFilled}
 use Rattle.ca_register.proofs.filling.register_of.Given as goal
 

@@ -1,5 +1,5 @@
 use Rattle.std.proofs.Common.{◌≡◌, Result, Err, inr, refl, sym, ap, ◌∙◌}
-use Rattle.x509_core.specs.KeptCertificate.{KeptCertificate}
+use Rattle.x509_core.specs.OwnedCertificate.{KeptCertificate}
 use Rattle.x509_issuing.specs.declared.builder.CertificateBuilder.{CertificateBuilder}
 use Rattle.ca_register.specs.declared.error.IssueError.{IssueError}
 use Rattle.std.proofs.Math.Logic.{∥∥₁_map}

@@ -2,7 +2,7 @@ use Rattle.std.proofs.Common.{map}
 use Rattle.std.specs.Prelude.{string_bytes}
 use Rattle.program_frame.proofs.Parsing.{IsParsed-option}
 use Rattle.ca_register.specs.Commands.{program}
-use Rattle.ca_register.specs.HeldCommand.{command_held}
+use Rattle.ca_register.specs.OwnedCommand.{command_held}
 use Rattle.ca_register.proofs.Answered.{reported_count}
 use Rattle.ca_register.proofs.program.run.Goals as goal
 

@@ -1,6 +1,6 @@
 use Rattle.std.proofs.Common.{Some, ap, sym, ◌∙◌, subst, arith, rules}
-use Rattle.der_core.specs.Lent.{at_option}
-use Rattle.cms_types.specs.Lent.{signer_at, signed_data_at}
+use Rattle.der_core.specs.BorrowedOption.{at_option}
+use Rattle.cms_types.specs.Borrowed.{signer_at, signed_data_at}
 use Rattle.cms_types.specs.Levels.{IsUnsignedOf}
 use Rattle.cms_types.specs.Signers.{Bare, WithUnsigned, Counter, MsCounter, Any, Signed, Pkcs7, AreUnsignedAttributes, NoUnsigned}
 use Rattle.cms_types.specs.Signers.{MoreUnsigned, AreSignerInfos, NoSigners, MoreSigners, ArePkcs7s, NoPkcs7s, MorePkcs7s}

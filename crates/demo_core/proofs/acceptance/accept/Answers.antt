@@ -5,7 +5,7 @@ use Rattle.sig_core.specs.DemoScheme.{demo_verdict}
 use Rattle.key_core.specs.Verifying.{Judge}
 use Rattle.x509_core.specs.Chain.{YieldsParents, IsAccepted, chain_rules, lent}
 use Rattle.x509_core.specs.Checks.{checks_at}
-use Rattle.x509_core.specs.KeptCertificate.{KeptCertificate}
+use Rattle.x509_core.specs.OwnedCertificate.{KeptCertificate}
 use Rattle.x509_core.specs.Rules.{RefusesCertBy}
 use Rattle.x509_core.specs.declared.error.CertError.{CertError}
 use Rattle.x509_core.specs.declared.validator.ChainChecks.{ChainChecks}

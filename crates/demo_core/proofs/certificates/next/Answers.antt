@@ -1,7 +1,7 @@
 use Rattle.std.proofs.Common.{refl, rules, sym, subst, ◌+◌, ◌++◌, ◌∷◌, []}
 use Rattle.std.proofs.lemmas.Option.{slice_get_read}
 use Rattle.std.proofs.lemmas.Result.{MatchResult-weaker}
-use Rattle.x509_core.specs.KeptCertificate.{KeptCertificate}
+use Rattle.x509_core.specs.OwnedCertificate.{KeptCertificate}
 use Rattle.demo_core.specs.Issuing.{AreStepCerts}
 use Rattle.demo_core.proofs.StepHistories.{parent_at, with_step}
 use Rattle.demo_core.proofs.certificates.next.Goals as goal

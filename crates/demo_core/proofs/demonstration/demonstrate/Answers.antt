@@ -1,6 +1,6 @@
 use Rattle.std.proofs.Common.{◌∙◌, ap, refl, sym, subst, arith, length, flat_map, List}
 use Rattle.sha2.specs.Sha256.{sha256}
-use Rattle.x509_core.specs.KeptCertificate.{KeptCertificate, kept_octets}
+use Rattle.x509_core.specs.OwnedCertificate.{KeptCertificate, kept_octets}
 use Rattle.der_core.specs.Counting.{IsCount}
 use Rattle.demo_core.specs.Acceptance.{IsRootAt, IsValidCount}
 use Rattle.demo_core.specs.History.{demo_history}

@@ -1,6 +1,6 @@
 use Rattle.std.proofs.Common.{sym, ◌∙◌}
 use Rattle.std.proofs.lemmas.Result.{MatchResult-weaker}
-use Rattle.der_core.specs.Facts.Kept.{same_encoded}
+use Rattle.der_core.specs.Facts.Owned.{same_encoded}
 use Rattle.der_core.proofs.Exact.{refuses_none}
 use Rattle.der_core.proofs.laws.read_back.Goals as goal
 

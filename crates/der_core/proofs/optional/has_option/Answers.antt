@@ -1,5 +1,5 @@
 use Rattle.std.proofs.Common.{Some, ap}
-use Rattle.der_core.specs.Lent.{at_option}
+use Rattle.der_core.specs.BorrowedOption.{at_option}
 use Rattle.der_core.specs.Facts.Optional.{some_spells}
 use Rattle.der_core.proofs.optional.has_option.Goals as goal
 

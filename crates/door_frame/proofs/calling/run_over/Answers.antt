@@ -5,7 +5,7 @@ use Rattle.door_frame.specs.Call.{IsCall}
 use Rattle.door_frame.specs.Files.{lent_files}
 use Rattle.door_frame.specs.Handing.{handed_line}
 use Rattle.door_frame.specs.Words.{lines_of}
-use Rattle.door_frame.proofs.LentCalls.{accepted, is_call, line_fits}
+use Rattle.door_frame.proofs.BorrowedCalls.{accepted, is_call, line_fits}
 use Rattle.door_frame.proofs.calling.run_over.Goals as goal
 
 pub hand_out-requires : goal.hand_out-requires

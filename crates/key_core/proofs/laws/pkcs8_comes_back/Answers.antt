@@ -1,6 +1,6 @@
 use Rattle.key_core.proofs.Pkcs8Keys.{comes_again, of_pkcs8, of_pkcs1}
 use Rattle.key_core.proofs.ComesBack.{private_for_memory}
-use Rattle.key_core.proofs.KeptKeys.{curve_key_again}
+use Rattle.key_core.proofs.OwnedKeys.{curve_key_again}
 use Rattle.key_core.proofs.laws.pkcs8_comes_back.Goals as goal
 
 pub returns-clause-again : goal.returns-clause-again

@@ -1,7 +1,7 @@
 use Rattle.std.proofs.Common.{List, ℕ, Vec, Global, map, sym, ap, subst, ◌∙◌}
 use Rattle.authenticode_core.specs.ContentRefusal.{of_content}
 use Rattle.authenticode_core.specs.declared.policy.Policy.{Policy}
-use Rattle.program_frame.specs.Held.{options_held}
+use Rattle.program_frame.specs.Owned.{options_held}
 use Rattle.program_frame.proofs.WordLists.{behind, words_are}
 use Rattle.pe_image.specs.ListAnswer.{IsListAnswer, IsProgramAnswer}
 use Rattle.pe_image.specs.ProgramPolicy.{program_policy}

@@ -4,7 +4,7 @@ use Rattle.authenticode_core.specs.ContentRefusal.{of_content}
 use Rattle.authenticode_core.specs.declared.policy.Policy.{Policy}
 use Rattle.program_frame.specs.Reports.{Reports}
 use Rattle.picky_check.specs.Report.{reporting}
-use Rattle.program_frame.specs.Held.{options_held}
+use Rattle.program_frame.specs.Owned.{options_held}
 use Rattle.picky_check.specs.Policies.{check_policy}
 use Rattle.picky_check.specs.SignatureAnswer.{IsListAnswer, IsSignatureAnswer}
 use Rattle.program_frame.proofs.WordLists.{behind, words_are}

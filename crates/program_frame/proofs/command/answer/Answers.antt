@@ -1,6 +1,6 @@
 use Rattle.std.proofs.Common.{List, ℕ, Err, length, ap, subst, arith}
 use Rattle.std.proofs.lemmas.Result.{err_from_is_err_and}
-use Rattle.program_frame.specs.Held.{contents_held}
+use Rattle.program_frame.specs.Owned.{contents_held}
 use Rattle.program_frame.specs.ReadFiles.{AreRead, AreUnread}
 use Rattle.program_frame.specs.Stops.{stop_for_file}
 use Rattle.program_frame.proofs.Failing.{failed_as, none_failed, one_error, stands}

@@ -1,7 +1,7 @@
 use Rattle.std.proofs.Common.{List, [], ◌∷◌, ℕ, Err, ap, length, map, string_bytes, sym, subst, ◌++◌, ◌∙◌, arith}
 use Rattle.std.proofs.lemmas.List.{map_push}
 use Rattle.std.proofs.lemmas.Result.{IfErr-weaker, err_from_is_err_and}
-use Rattle.program_frame.specs.Held.{last_held, names_held}
+use Rattle.program_frame.specs.Owned.{last_held, names_held}
 use Rattle.program_frame.specs.ReadFiles.{AreUnread}
 use Rattle.program_frame.proofs.Failing.{failed_as, failed_then, none_failed, one_error, stands}
 use Rattle.program_frame.proofs.SeveralFiles.{read_only, unread_first, unread_behind}

@@ -1,6 +1,6 @@
 use Rattle.std.proofs.Common.{◌++◌, Err, List, ℕ, ap, length, map, string_bytes, sym, subst, ◌∙◌, arith}
 use Rattle.std.proofs.lemmas.Result.{err_from_is_err_and}
-use Rattle.program_frame.specs.Held.{last_held, names_held}
+use Rattle.program_frame.specs.Owned.{last_held, names_held}
 use Rattle.program_frame.specs.ReadFiles.{AreUnread}
 use Rattle.program_frame.proofs.Failing.{failed_as, failed_then, one_error, stands}
 use Rattle.program_frame.proofs.SeveralFiles.{unread_first, unread_behind}

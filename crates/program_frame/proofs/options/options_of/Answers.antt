@@ -1,5 +1,5 @@
 use Rattle.std.proofs.Common.{map, string_bytes, Some, sym, ap}
-use Rattle.program_frame.specs.Held.{option_held, options_held}
+use Rattle.program_frame.specs.Owned.{option_held, options_held}
 use Rattle.program_frame.proofs.WordLists.{behind, words_are}
 use Rattle.program_frame.proofs.OptionWords.{all_read, only_read, none_next, not_again, nothing_left, one_more}
 use Rattle.program_frame.proofs.options.options_of.Goals as goal

@@ -1,5 +1,5 @@
 use Rattle.std.proofs.Common.{length, map, string_bytes}
-use Rattle.program_frame.specs.Held.{options_held}
+use Rattle.program_frame.specs.Owned.{options_held}
 use Rattle.program_frame.proofs.OptionWords.{AreRead}
 use Rattle.program_frame.proofs.options.options_of.Given as goal
 

@@ -1,7 +1,7 @@
 use Rattle.std.proofs.Common.{List, inl, refl, subst}
 use Rattle.std.proofs.lemmas.Result.{err_from_is_err_and}
-use Rattle.program_frame.specs.Held.{contents_held}
-use Rattle.x509_core.specs.KeptCertificate.{KeptCertificate}
+use Rattle.program_frame.specs.Owned.{contents_held}
+use Rattle.x509_core.specs.OwnedCertificate.{KeptCertificate}
 use Rattle.signature_questions.specs.Commands.{IsChainLine}
 use Rattle.signature_questions.specs.Listed.{AreOfChain}
 use Rattle.signature_questions.proofs.LineReports.{line_reports, memory_reports, unread_reports}

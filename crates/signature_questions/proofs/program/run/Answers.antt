@@ -2,7 +2,7 @@ use Rattle.std.proofs.Common.{map}
 use Rattle.std.specs.Prelude.{string_bytes}
 use Rattle.program_frame.proofs.Parsing.{IsParsed-option}
 use Rattle.signature_questions.specs.Commands.{program}
-use Rattle.signature_questions.specs.HeldCommand.{command_held}
+use Rattle.signature_questions.specs.OwnedCommand.{command_held}
 use Rattle.signature_questions.proofs.program.run.Goals as goal
 
 pub returns : goal.returns

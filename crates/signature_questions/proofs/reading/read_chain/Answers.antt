@@ -1,6 +1,6 @@
 use Rattle.std.proofs.Common.{◌∷◌, ℕ, List, map, ap, subst, ◌∙◌, Vec, Global}
 use Rattle.std.proofs.lemmas.Result.{err_from_is_err_and}
-use Rattle.x509_core.specs.KeptCertificates.{IsFirstUnread}
+use Rattle.x509_core.specs.OwnedCertificates.{IsFirstUnread}
 use Rattle.signature_questions.proofs.ReadCertificates.{chain_read, first_unread, parent_unread}
 use Rattle.signature_questions.proofs.reading.read_chain.Goals as goal
 

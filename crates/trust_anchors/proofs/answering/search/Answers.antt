@@ -1,5 +1,5 @@
 use Rattle.std.proofs.Common.{List, sym, subst}
-use Rattle.x509_core.specs.KeptCertificate.{KeptCertificate}
+use Rattle.x509_core.specs.OwnedCertificate.{KeptCertificate}
 use Rattle.trust_anchors.specs.AnchoredPath.{IsAnchoredPath}
 use Rattle.trust_anchors.proofs.Answered.{none_found}
 use Rattle.trust_anchors.proofs.answering.search.Goals as goal

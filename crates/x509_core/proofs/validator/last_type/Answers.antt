@@ -5,7 +5,7 @@ use Rattle.std.specs.Borrow.{Bor}
 use Rattle.std.specs.Iterator.{Yields}
 use Rattle.x509_core.specs.Chain.{GivesParent, lent, nearest}
 use Rattle.x509_core.specs.CertType.{IsOfType}
-use Rattle.x509_core.specs.KeptCertificate.{KeptCertificate}
+use Rattle.x509_core.specs.OwnedCertificate.{KeptCertificate}
 use Rattle.x509_core.specs.Link.{IsLink, link_rules}
 use Rattle.x509_core.specs.Rules.{RefusesCertBy}
 use Rattle.x509_core.proofs.ChainSteps.{linked_none_of, grown_chain, grown_place, grown_count, unlinked}

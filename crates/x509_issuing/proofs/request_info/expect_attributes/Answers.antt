@@ -1,5 +1,5 @@
 use Rattle.std.proofs.Common.{Option, Some, refl, subst, sym}
-use Rattle.der_core.specs.Lent.{at_option}
+use Rattle.der_core.specs.BorrowedOption.{at_option}
 use Rattle.der_core.specs.Optional.{SpellsOption}
 use Rattle.der_core.specs.declared.elem.Elem.{Elem}
 use Rattle.x509_types.specs.Attribute.{AreAttributes}

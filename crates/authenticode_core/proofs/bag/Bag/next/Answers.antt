@@ -1,6 +1,6 @@
 use Rattle.std.proofs.Common.{ap}
 use Rattle.authenticode_core.specs.LeftMembers.{left_members}
-use Rattle.authenticode_core.proofs.PlaceSteps.{ended, moves}
+use Rattle.authenticode_core.proofs.IndexSteps.{ended, moves}
 use Rattle.authenticode_core.proofs.bag.Bag.next.Goals as goal
 
 pub returns-in_err-elem-clause-next : goal.returns-in_err-elem-clause-next

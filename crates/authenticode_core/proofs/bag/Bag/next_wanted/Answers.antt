@@ -1,6 +1,6 @@
 use Rattle.std.proofs.Common.{arith}
 use Rattle.std.proofs.lemmas.Bool.{iff_false}
-use Rattle.authenticode_core.proofs.PlaceSteps.{none_behind, none_yet}
+use Rattle.authenticode_core.proofs.IndexSteps.{none_behind, none_yet}
 use Rattle.authenticode_core.proofs.bag.Bag.next_wanted.Goals as goal
 
 pub returns-then-is-clause-least : goal.returns-then-is-clause-least

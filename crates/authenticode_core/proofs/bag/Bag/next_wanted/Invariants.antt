@@ -3,7 +3,7 @@ use Rattle.x509_types.specs.CertificateElements.{CertificateElements}
 use Rattle.authenticode_core.specs.BagCursor.{StandsIn}
 use Rattle.authenticode_core.specs.Inside.Wanted.{IsWanted}
 use Rattle.authenticode_core.specs.LeftMembers.{left_members}
-use Rattle.authenticode_core.specs.Places.{HasNoPlaceBetween}
+use Rattle.authenticode_core.specs.Indices.{HasNoPlaceBetween}
 use Rattle.authenticode_core.proofs.bag.Bag.next_wanted.Given as goal
 
 -- the cursor is in the same bag, and no certificate that it passed is wanted

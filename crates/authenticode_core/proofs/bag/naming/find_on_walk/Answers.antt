@@ -1,4 +1,4 @@
-use Rattle.authenticode_core.proofs.PassedPlaces.{passed_none, passed_step, passed_found, passed_asks}
+use Rattle.authenticode_core.proofs.PassedIndices.{passed_none, passed_step, passed_found, passed_asks}
 use Rattle.authenticode_core.proofs.bag.naming.find_on_walk.Goals as goal
 
 pub loop-next-init : goal.loop-next-init

@@ -4,7 +4,7 @@ use Rattle.x509_types.specs.CertificateElements.{CertificateElements}
 use Rattle.authenticode_core.specs.CertificateBag.{IsBag}
 use Rattle.authenticode_core.specs.LeftMembers.{left_members}
 use Rattle.authenticode_core.specs.WalkCursor.{LooksFrom}
-use Rattle.authenticode_core.proofs.PassedPlaces.{Passed}
+use Rattle.authenticode_core.proofs.PassedIndices.{Passed}
 use Rattle.authenticode_core.proofs.bag.naming.find_on_walk.Given as goal
 
 -- a bag of the rest is the end of one of all, and what was passed is known

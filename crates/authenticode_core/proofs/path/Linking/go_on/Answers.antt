@@ -1,6 +1,6 @@
 use Rattle.std.proofs.Common.{refl}
 use Rattle.std.proofs.lemmas.Result.{err_from_is_err_and}
-use Rattle.authenticode_core.proofs.LinkedPlaces.{broken_next, linked_next, out_of_memory}
+use Rattle.authenticode_core.proofs.LinkedIndices.{broken_next, linked_next, out_of_memory}
 use Rattle.authenticode_core.proofs.path.Linking.go_on.Goals as goal
 
 pub returns-in_err-parent : goal.returns-in_err-parent

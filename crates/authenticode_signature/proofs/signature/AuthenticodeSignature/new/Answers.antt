@@ -2,7 +2,7 @@ use Rattle.std.proofs.Common.{List, Err, inl, sym, ap, subst, ◌∙◌}
 use Rattle.std.proofs.lemmas.Result.{err_from_is_err_and}
 use Rattle.std.specs.Option.{option_copied}
 use Rattle.cms_types.specs.OpusInfo.{opus_info}
-use Rattle.x509_core.specs.KeptCertificate.{KeptCertificate}
+use Rattle.x509_core.specs.OwnedCertificate.{KeptCertificate}
 use Rattle.authenticode_core.specs.SigningRules.{IsBagOf}
 use Rattle.x509_core.proofs.NoRefusal.{one_error}
 use Rattle.authenticode_core.specs.declared.error.AuthenticodeError.TheVariants as errors

@@ -1,6 +1,6 @@
 use Rattle.std.proofs.Common.{ℕ, List, map, ap, subst, sym, ◌∙◌, Vec, Global}
-use Rattle.ca_register.specs.Held.{line_held}
-use Rattle.ca_register.specs.HeldCommand.{command_held}
+use Rattle.ca_register.specs.Owned.{line_held}
+use Rattle.ca_register.specs.OwnedCommand.{command_held}
 use Rattle.ca_register.specs.Lines.{IsRegisterText}
 use Rattle.ca_register.specs.declared.text.line.RegisterLine.{RegisterLine}
 use Rattle.ca_register.proofs.Answered.{text_report}

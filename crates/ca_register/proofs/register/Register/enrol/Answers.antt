@@ -3,7 +3,7 @@ use Rattle.std.proofs.lemmas.Result.{err_from_is_err_and}
 use Rattle.der_core.specs.Steps.{IsFirstUntaken, RefusesBySteps}
 use Rattle.der_core.proofs.TakenSteps.{refused_before, refused_behind}
 use Rattle.key_core.specs.Signing.{IsKeyPair, arithmetic}
-use Rattle.x509_core.specs.KeptCertificate.{KeptCertificate}
+use Rattle.x509_core.specs.OwnedCertificate.{KeptCertificate}
 use Rattle.x509_core.proofs.Validity.{same_some}
 use Rattle.x509_issuing.specs.declared.builder.CertificateBuilder.{CertificateBuilder}
 use Rattle.x509_issuing.specs.declared.builder.SubjectInfos.TheVariants as subjects

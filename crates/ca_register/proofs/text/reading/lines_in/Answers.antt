@@ -1,6 +1,6 @@
 use Rattle.std.proofs.Common.{◌∷◌, ◌++◌, [], map, sym, ◌∙◌, ap, subst, arith, rules}
 use Rattle.std.proofs.lemmas.List.{length-map, map-append}
-use Rattle.ca_register.specs.Held.{line_held, line_read}
+use Rattle.ca_register.specs.Owned.{line_held, line_read}
 use Rattle.ca_register.specs.Lines.{Line, line_words}
 use Rattle.ca_register.proofs.Spelling.{line_in_line, none_some, same_some}
 use Rattle.ca_register.proofs.Texts.{HasRead, bad_rest, empty, read_more, read_once, too_many}

@@ -1,7 +1,7 @@
 use Rattle.std.proofs.Common.{length, map}
 use denote.Shadow.{shadow}
 use denote.Text.{Utf8}
-use Rattle.ca_register.specs.Held.{line_held}
+use Rattle.ca_register.specs.Owned.{line_held}
 use Rattle.ca_register.proofs.Texts.{HasRead}
 use Rattle.ca_register.proofs.text.reading.lines_in.Given as goal
 

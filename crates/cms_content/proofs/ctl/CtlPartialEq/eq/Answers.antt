@@ -1,5 +1,5 @@
 use Rattle.std.proofs.Common.{ap}
-use Rattle.der_core.specs.Kept.{KeptElement}
+use Rattle.der_core.specs.Owned.{KeptElement}
 use Rattle.cms_content.specs.Facts.Ctls.{ctls_once}
 use Rattle.cms_content.specs.declared.ctl.Ctl.{Ctl}
 use Rattle.cms_content.proofs.ctl.CtlPartialEq.eq.Goals as goal

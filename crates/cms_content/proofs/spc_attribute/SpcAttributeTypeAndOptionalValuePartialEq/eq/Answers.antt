@@ -3,7 +3,7 @@ use Rattle.std.specs.Prelude.{bytes_eq}
 use Rattle.std.specs.Option.{option_eq}
 use Rattle.der_core.specs.Encoding.{encoding}
 use Rattle.der_core.specs.Equality.{same_octets}
-use Rattle.der_core.specs.Kept.{KeptElement}
+use Rattle.der_core.specs.Owned.{KeptElement}
 use Rattle.der_core.specs.Facts.Equality.{kept_same, options_same, octets_decide}
 use Rattle.asn1_types.specs.declared.oid.ObjectIdentifier.{ObjectIdentifier}
 use Rattle.cms_content.specs.SpcAttribute.{spc_attribute}

@@ -1,7 +1,7 @@
 use Rattle.std.proofs.Common.{Option, ap, ◌∙◌}
 use Rattle.der_core.specs.DerElement.{DerElement}
-use Rattle.der_core.specs.Lent.{at_option}
-use Rattle.der_core.specs.Facts.Lent.{keep_option}
+use Rattle.der_core.specs.BorrowedOption.{at_option}
+use Rattle.der_core.specs.Facts.BorrowedOption.{keep_option}
 use Rattle.asn1_types.specs.Elements.{object_identifier}
 use Rattle.cms_content.specs.SpcAttribute.{spc_attribute_of}
 use Rattle.cms_content.proofs.spc_attribute.SpcAttributeTypeAndOptionalValueStructure.has_shape.Goals as goal

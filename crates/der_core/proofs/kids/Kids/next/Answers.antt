@@ -1,6 +1,6 @@
 use Rattle.std.proofs.Common.{rules, sym, subst}
 use Rattle.std.proofs.lemmas.Bool.{iff_false}
-use Rattle.der_core.specs.Placed.{IsElem}
+use Rattle.der_core.specs.Borrowed.{IsElem}
 use Rattle.der_core.proofs.InOctets.{head_left, first_there, next_are}
 use Rattle.der_core.proofs.kids.Kids.next.Goals as goal
 

@@ -1,5 +1,5 @@
 use Rattle.std.proofs.Common.{rules, ap, ◌∙◌}
-use Rattle.der_core.specs.Kept.{KeptElement}
+use Rattle.der_core.specs.Owned.{KeptElement}
 use Rattle.der_core.proofs.InOctets.{one_kept, kept_first, kept_not_none}
 use Rattle.der_core.proofs.raw.Raw.elem.Goals as goal
 

@@ -1,5 +1,5 @@
 use Rattle.std.proofs.Common.{sym, ◌∙◌}
-use Rattle.der_core.specs.Facts.Kept.{same_encoded}
+use Rattle.der_core.specs.Facts.Owned.{same_encoded}
 use Rattle.der_core.proofs.raw.Raw.from_tree.Goals as goal
 
 pub returns-clause-kept : goal.returns-clause-kept

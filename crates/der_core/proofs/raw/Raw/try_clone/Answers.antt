@@ -1,6 +1,6 @@
 use Rattle.std.proofs.Common.{sym, ap, ◌∙◌}
-use Rattle.der_core.specs.Kept.{KeptElement}
-use Rattle.der_core.specs.Facts.Kept.{same_encoded, same_kept}
+use Rattle.der_core.specs.Owned.{KeptElement}
+use Rattle.der_core.specs.Facts.Owned.{same_encoded, same_kept}
 use Rattle.der_core.proofs.raw.Raw.try_clone.Goals as goal
 
 pub returns : goal.returns

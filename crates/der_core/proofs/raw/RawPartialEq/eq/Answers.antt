@@ -2,8 +2,8 @@ use Rattle.std.proofs.Common.{◌≡◌, sym, ap, ◌∙◌}
 use Rattle.std.specs.Str.{bytes_eq}
 use Rattle.std.proofs.lemmas.Slice.Eq.{bytes_eq-Decides}
 use Rattle.der_core.specs.Encoding.{encoding}
-use Rattle.der_core.specs.Kept.{KeptElement}
-use Rattle.der_core.specs.Facts.Kept.{same_encoded, same_kept}
+use Rattle.der_core.specs.Owned.{KeptElement}
+use Rattle.der_core.specs.Facts.Owned.{same_encoded, same_kept}
 use Rattle.der_core.proofs.raw.RawPartialEq.eq.Goals as goal
 
 pub returns-clause-same : goal.returns-clause-same

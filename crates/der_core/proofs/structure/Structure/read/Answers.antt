@@ -1,6 +1,6 @@
 use Rattle.std.proofs.Common.{MatchResult, subst, sym, ◌∙◌}
 use Rattle.der_core.specs.Refusals.{RefusesShape}
-use Rattle.der_core.specs.Facts.Kept.{same_encoded}
+use Rattle.der_core.specs.Facts.Owned.{same_encoded}
 use Rattle.der_core.proofs.Exact.{no_fault_where_whole}
 use Rattle.der_core.proofs.structure.Structure.read.Goals as goal
 

@@ -1,9 +1,9 @@
 use Rattle.std.proofs.Common.{Option, ap, ◌∙◌}
 use Rattle.der_core.specs.DerElement.{DerElement}
-use Rattle.der_core.specs.Lent.{at_option}
+use Rattle.der_core.specs.BorrowedOption.{at_option}
 use Rattle.asn1_types.specs.Elements.{object_identifier}
 use Rattle.key_types.specs.AlgorithmIdentifier.{algorithm_of}
-use Rattle.der_core.specs.Facts.Lent.{keep_option}
+use Rattle.der_core.specs.Facts.BorrowedOption.{keep_option}
 use Rattle.key_types.proofs.algorithm.AlgorithmIdentifierStructure.has_shape.Goals as goal
 
 pub returns-in-Some-clause-fits : goal.returns-in-Some-clause-fits

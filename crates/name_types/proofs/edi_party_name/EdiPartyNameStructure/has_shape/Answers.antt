@@ -1,5 +1,5 @@
 use Rattle.std.proofs.Common.{Some, None, ap}
-use Rattle.der_core.specs.Lent.{at_option}
+use Rattle.der_core.specs.BorrowedOption.{at_option}
 use Rattle.name_types.proofs.Parties.{one_string, two_strings}
 use Rattle.name_types.proofs.edi_party_name.EdiPartyNameStructure.has_shape.Goals as goal
 

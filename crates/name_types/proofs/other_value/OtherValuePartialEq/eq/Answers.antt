@@ -1,6 +1,6 @@
 use Rattle.name_types.specs.Facts.Names.{same_other}
 use Rattle.std.proofs.Common.{ap}
-use Rattle.der_core.specs.Kept.{KeptElement}
+use Rattle.der_core.specs.Owned.{KeptElement}
 use Rattle.name_types.specs.declared.other_value.OtherValue.{OtherValue}
 use Rattle.name_types.proofs.other_value.OtherValuePartialEq.eq.Goals as goal
 

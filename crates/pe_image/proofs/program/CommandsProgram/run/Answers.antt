@@ -1,7 +1,7 @@
 use Rattle.std.proofs.Common.{◌∙◌, arith}
 use Rattle.program_frame.proofs.Parsing.{IsParsed-option}
 use Rattle.pe_image.specs.Commands.{program}
-use Rattle.pe_image.specs.HeldCommand.{command_held}
+use Rattle.pe_image.specs.OwnedCommand.{command_held}
 use Rattle.pe_image.proofs.Vouching.{vouched_for}
 use Rattle.pe_image.proofs.program.CommandsProgram.run.Goals as goal
 

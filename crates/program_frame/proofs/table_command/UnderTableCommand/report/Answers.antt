@@ -2,7 +2,7 @@ use Rattle.std.proofs.Common.{sym, subst, List, ℕ}
 use Rattle.std.proofs.lemmas.Result.{err_from_is_err_and}
 use Rattle.sig_core.specs.VerdictTable.{IsTable}
 use Rattle.sig_core.specs.declared.verdict_row.VerdictRow.{VerdictRow}
-use Rattle.program_frame.specs.Held.{contents_held}
+use Rattle.program_frame.specs.Owned.{contents_held}
 use Rattle.program_frame.specs.KnownTable.{found_rows}
 use Rattle.program_frame.proofs.Reporting.{IsReport-no_table, IsReport-table}
 use Rattle.program_frame.proofs.table_command.UnderTableCommand.report.Goals as goal

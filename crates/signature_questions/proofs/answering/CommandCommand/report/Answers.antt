@@ -1,5 +1,5 @@
 use Rattle.std.proofs.Common.{ℕ, List, subst, Vec, Global}
-use Rattle.program_frame.specs.Held.{contents_held}
+use Rattle.program_frame.specs.Owned.{contents_held}
 use Rattle.program_frame.specs.Reports.{Reports, as_lines}
 use Rattle.signature_questions.specs.Commands.{IsSignatureLine}
 use Rattle.signature_questions.proofs.LineReports.{chain_report, signature_report}

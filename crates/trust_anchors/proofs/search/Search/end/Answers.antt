@@ -1,6 +1,6 @@
 use Rattle.std.proofs.Common.{◌≡◌, ◌-◌, ℕ, List, Option, Some, IsSome, length, sym, subst, ◌∙◌}
 use Rattle.std.specs.Prelude.{slice_get}
-use Rattle.x509_core.specs.KeptCertificate.{KeptCertificate}
+use Rattle.x509_core.specs.OwnedCertificate.{KeptCertificate}
 use Rattle.trust_anchors.proofs.Chains.{end_by_last, within_pool}
 use Rattle.trust_anchors.proofs.search.Search.end.Goals as goal
 

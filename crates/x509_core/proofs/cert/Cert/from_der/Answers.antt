@@ -2,8 +2,8 @@ use Rattle.std.proofs.Common.{◌≡◌, Result, Ok, Err, sym, ap, ◌∙◌}
 use Rattle.der_core.specs.declared.error.DerError.{DerError}
 use Rattle.key_core.specs.declared.element.Element.TheVariants as elements
 use Rattle.x509_core.specs.CertRefusals.{unread}
-use Rattle.x509_core.specs.KeptCertificate.{KeptCertificate}
-use Rattle.x509_core.proofs.KeptOctets.{refused_for_memory, same_certificate}
+use Rattle.x509_core.specs.OwnedCertificate.{KeptCertificate}
+use Rattle.x509_core.proofs.OwnedOctets.{refused_for_memory, same_certificate}
 use Rattle.x509_core.proofs.cert.Cert.from_der.Goals as goal
 
 source_is : (x y : DerError) → ◌≡◌ {A = Result KeptCertificate DerError} (Err x) (Err y) → x ≡ y

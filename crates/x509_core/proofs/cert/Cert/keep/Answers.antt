@@ -1,4 +1,4 @@
-use Rattle.x509_core.proofs.KeptFields.{has_fields}
+use Rattle.x509_core.proofs.OwnedFields.{has_fields}
 use Rattle.x509_core.proofs.cert.Cert.keep.Goals as goal
 
 pub of_parts-requires : goal.of_parts-requires

@@ -1,8 +1,8 @@
 use Rattle.std.proofs.Common.{sym, ap, ◌∙◌}
 use Rattle.x509_types.specs.CertificateElements.{certificate_of}
-use Rattle.x509_core.specs.KeptCertificate.{KeptCertificate}
+use Rattle.x509_core.specs.OwnedCertificate.{KeptCertificate}
 use Rattle.x509_core.specs.Facts.CertificateParts.{parts_once}
-use Rattle.x509_core.proofs.KeptFields.{known_certificate}
+use Rattle.x509_core.proofs.OwnedFields.{known_certificate}
 use Rattle.x509_core.proofs.cert.Cert.view.Goals as goal
 
 pub of_known-requires : goal.of_known-requires

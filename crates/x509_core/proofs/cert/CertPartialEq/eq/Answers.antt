@@ -1,6 +1,6 @@
 use Rattle.std.proofs.Common.{ap, ◌∙◌}
 use Rattle.x509_types.specs.CertificateElements.{certificate_of}
-use Rattle.x509_core.specs.KeptCertificate.{KeptCertificate}
+use Rattle.x509_core.specs.OwnedCertificate.{KeptCertificate}
 use Rattle.x509_core.proofs.SameCerts.{same_certs}
 use Rattle.x509_core.proofs.cert.CertPartialEq.eq.Goals as goal
 

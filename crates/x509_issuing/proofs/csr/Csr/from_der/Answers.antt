@@ -2,7 +2,7 @@ use Rattle.std.proofs.Common.{◌≡◌, Result, Ok, Err, ap, ◌∙◌}
 use Rattle.der_core.specs.declared.error.DerError.{DerError}
 use Rattle.key_core.specs.declared.element.Element.TheVariants as elements
 use Rattle.x509_issuing.specs.CsrRefusals.{unread_csr}
-use Rattle.x509_issuing.specs.KeptRequest.{KeptRequest}
+use Rattle.x509_issuing.specs.OwnedRequest.{KeptRequest}
 use Rattle.x509_issuing.proofs.Rereading.{refused_for_memory, same_request}
 use Rattle.x509_issuing.proofs.csr.Csr.from_der.Goals as goal
 

@@ -1,5 +1,5 @@
 use Rattle.std.proofs.Common.{ap, ◌∙◌}
-use Rattle.x509_issuing.specs.KeptRequest.{kept_request}
+use Rattle.x509_issuing.specs.OwnedRequest.{kept_request}
 use Rattle.x509_issuing.specs.Facts.Csrs.{kept_once}
 use Rattle.x509_issuing.proofs.csr.Csr.try_clone.Goals as goal
 

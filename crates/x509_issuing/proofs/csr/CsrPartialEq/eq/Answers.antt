@@ -1,5 +1,5 @@
 use Rattle.std.proofs.Common.{ap, ◌∙◌}
-use Rattle.x509_issuing.specs.KeptRequest.{kept_request}
+use Rattle.x509_issuing.specs.OwnedRequest.{kept_request}
 use Rattle.x509_issuing.proofs.ReadCsrs.{same_csrs}
 use Rattle.x509_issuing.proofs.csr.CsrPartialEq.eq.Goals as goal
 

@@ -1,5 +1,5 @@
 use Rattle.std.proofs.lemmas.Result.{err_from_is_err_and}
-use Rattle.cms_types.specs.Lent.{signed_data_at}
+use Rattle.cms_types.specs.Borrowed.{signed_data_at}
 use Rattle.cms_types.proofs.Fields.{none_carried, none_signed}
 use Rattle.cms_types.proofs.signed_data.fields.SignedDataFields.read.Goals as goal
 

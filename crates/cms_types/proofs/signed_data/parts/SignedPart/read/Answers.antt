@@ -3,7 +3,7 @@ use Rattle.std.proofs.lemmas.Result.{err_from_is_err_and}
 use Rattle.der_core.specs.DerElement.{DerElement}
 use Rattle.der_core.specs.Each.{IsListOf}
 use Rattle.der_core.specs.Facts.Lists.{list_refused}
-use Rattle.cms_types.specs.Lent.{signed_data_at}
+use Rattle.cms_types.specs.Borrowed.{signed_data_at}
 use Rattle.cms_types.specs.Levels.{IsAlgorithm}
 use Rattle.cms_types.specs.SignedDataParts.{AreSigned}
 use Rattle.cms_types.specs.SignerInfo.{signer_info}

@@ -1,6 +1,6 @@
 use Rattle.std.proofs.Common.{ℕ, List, sym, ap, ◌∙◌}
 use Rattle.der_core.specs.DerElement.{Primitive}
-use Rattle.der_core.specs.Lent.{at_option}
+use Rattle.der_core.specs.BorrowedOption.{at_option}
 use Rattle.cms_content.specs.ContentInfoElements.{content_info_of}
 use Rattle.cms_types.proofs.Viewed.{data_content}
 use Rattle.cms_types.proofs.signed_data.view.SignedView.content_type.Goals as goal

@@ -1,5 +1,5 @@
 use Rattle.std.proofs.Common.{ap}
-use Rattle.der_core.specs.Lent.{at_option}
+use Rattle.der_core.specs.BorrowedOption.{at_option}
 use Rattle.cms_types.proofs.Viewed.{certificates_bit}
 use Rattle.cms_types.proofs.signed_data.view.SignedView.members.Goals as goal
 

@@ -1,5 +1,5 @@
 use Rattle.std.proofs.lemmas.Result.{err_from_is_err_and}
-use Rattle.cms_types.specs.Lent.{signer_at}
+use Rattle.cms_types.specs.Borrowed.{signer_at}
 use Rattle.cms_types.proofs.Fields.{no_signed_by, no_signature}
 use Rattle.cms_types.proofs.signer_info.fields.SignerFields.read.Goals as goal
 

@@ -1,4 +1,4 @@
-use Rattle.x509_types.specs.LentTbs.{elements_at}
+use Rattle.x509_types.specs.BorrowedTbs.{elements_at}
 use Rattle.x509_types.proofs.Spelled.{all_fit}
 use Rattle.x509_types.proofs.certificate.tbs_fields.TbsFields.expect_shapes.Goals as goal
 

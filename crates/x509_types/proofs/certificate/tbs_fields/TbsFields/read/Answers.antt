@@ -1,5 +1,5 @@
 use Rattle.std.proofs.lemmas.Result.{err_from_is_err_and}
-use Rattle.x509_types.specs.LentTbs.{elements_at}
+use Rattle.x509_types.specs.BorrowedTbs.{elements_at}
 use Rattle.x509_types.proofs.Spelled.{no_issued_by, no_issued_to, none_added}
 use Rattle.x509_types.proofs.certificate.tbs_fields.TbsFields.read.Goals as goal
 
