@@ -5,9 +5,9 @@ use Rattle.cms_types.specs.SignedDataElements.{SignedDataElements}
 use Rattle.key_core.specs.Verifying.{Judge}
 use Rattle.pe_core.specs.Bound.{table_of}
 use Rattle.sig_core.specs.declared.verdict_row.VerdictRow.{VerdictRow}
-use Rattle.x509_core.specs.KeptCertificate.{KeptCertificate, kept_octets}
-use Rattle.x509_core.specs.KeptCertificates.{AreKeptCertificates}
-use Rattle.x509_core.proofs.KeptOctets.{same_certificates}
+use Rattle.x509_core.specs.OwnedCertificate.{KeptCertificate, kept_octets}
+use Rattle.x509_core.specs.OwnedCertificates.{AreKeptCertificates}
+use Rattle.x509_core.proofs.OwnedOctets.{same_certificates}
 use Rattle.authenticode_core.specs.Basic.{HasSignedData}
 use Rattle.authenticode_core.proofs.OneData.{one_data}
 use Rattle.program_frame.specs.Limits.{IsWholeFile}

@@ -2,8 +2,8 @@
 use Rattle.std.proofs.Common.{inl, inr}
 use Rattle.std.specs.Prelude.{◌⊎◌, ℕ, List, [], ◌∷◌, Option}
 use Rattle.cms_types.specs.SignedDataElements.{SignedDataElements}
-use Rattle.x509_core.specs.KeptCertificate.{KeptCertificate}
-use Rattle.x509_core.specs.KeptCertificates.{AreKeptCertificates}
+use Rattle.x509_core.specs.OwnedCertificate.{KeptCertificate}
+use Rattle.x509_core.specs.OwnedCertificates.{AreKeptCertificates}
 use Rattle.authenticode_core.specs.Basic.{HasSignedData}
 use Rattle.program_frame.specs.Limits.{AreWholeFiles, IsWholeFile}
 use Rattle.program_frame.specs.ReadFiles.{HandsOut, total_length}

@@ -27,7 +27,7 @@ ghost use Rattle.vouching.specs.ReadSame.{IsOneFile, ReadSame, ReadsItsTable};
 ghost use Rattle.vouching.specs.Verified.{AreToldApart, AreVerified, HaveOwnDigests, IsInPlay, StandsBehind};
 ghost use Rattle.vouching.specs.VouchedBy.{IsProgramVouchedBy, IsVouchedBy, MayAsk, rows_of};
 ghost use Rattle.x509_core.specs.Chain.{IsAccepted};
-ghost use Rattle.x509_core.specs.KeptCertificate.{KeptCertificate};
+ghost use Rattle.x509_core.specs.OwnedCertificate.{KeptCertificate};
 ghost use Rattle.x509_core.specs.declared.validator.ChainChecks.{ChainChecks};
 
 use program_frame::Shelf;
