@@ -78,6 +78,21 @@ own_rows judge asked row among accepts =
       accepted = ap (λ (r : VerdictRow). r.verdict) there.2 ∙ accepts;
     }
 
+abbrev pub accepting_row : Question → VerdictRow
+accepting_row question = record { verdict = Accept; signature = digests_of question }
+
+pub one_verified : (judge : Judge) (question : Question) → verdict_on judge question ≡ Accept
+    → AreVerified judge (question ∷ []) (accepting_row question ∷ [])
+one_verified judge question accepted row among accepts = elim (first_or_later (accepting_row question) [] row among) [
+  | inl is ↦ record {
+    question = question;
+    among = first_there question [];
+    names = sym (ap (λ (r : VerdictRow). r.signature) is);
+    accepted = accepted;
+  }
+  | inr none ↦ absurd (none_there row none)
+]
+
 pub one_apart : (question : Question) → AreToldApart (Contains (question ∷ []))
 one_apart question q r q_in r_in same = sym (only q q_in) ∙ only r r_in
   where

@@ -21,7 +21,7 @@ ghost use Rattle.signature_questions.specs.Asked.{IsOfChain, IsQuestion};
 ghost use Rattle.signature_questions.specs.Commands.{program as questions};
 ghost use Rattle.signature_questions.specs.Listed.{AreOfChain, AreQuestions};
 ghost use Rattle.signature_questions.specs.Question.{Question, verdict_on};
-ghost use Rattle.signature_questions.specs.Tables.{row_of};
+ghost use Rattle.signature_questions.specs.Tables.{digests_of, row_of};
 ghost use Rattle.vouching.specs.Listing.{IsListed, listed_questions};
 ghost use Rattle.vouching.specs.ReadSame.{IsOneFile, ReadSame, ReadsItsTable};
 ghost use Rattle.vouching.specs.Verified.{AreToldApart, AreVerified, HaveOwnDigests, IsInPlay, StandsBehind};
@@ -37,9 +37,9 @@ use program_frame::Shelf;
 /// digests are the same. Then what is trusted by the verdicts of the table, under any policy, is
 /// trusted by those of the verifier (`trusted`), and so it is with a chain (`chain`).
 ///
-/// It does so with the table of its own verdicts on the questions about the file (`made`), and with
-/// a table of one row about a file with one question, which it accepted (`one`). By the table without
-/// rows nothing is vouched for (`none`). Questions are told apart where no two keys, messages or
+/// It stands behind the table of its own verdicts on the questions about the file (`made`), and
+/// behind a table with one row that accepts the only question about a file, as it did (`one`). By the
+/// table without rows nothing is vouched for (`none`). Questions are told apart where no two keys, messages or
 /// signatures in play have the same SHA-256 (`apart`); and of the questions about a file alone it
 /// can be seen (`listed`, `listed_chain`).
 pub fn verified_tables_decide()
@@ -57,7 +57,8 @@ pub fn verified_tables_decide()
         → StandsBehind judge asked (IsQuestion f) (map (row_of judge) asked) }
     ensures one { (judge : Judge) (f : SignedDataElements) (question : Question)
         → AreQuestions f (question ∷ []) → verdict_on judge question ≡ Accept
-        → StandsBehind judge (question ∷ []) (IsQuestion f) (row_of judge question ∷ []) }
+        → StandsBehind judge (question ∷ []) (IsQuestion f)
+        (record { verdict = Accept; signature = digests_of question } ∷ []) }
     ensures none { (f : SignedDataElements) (hash : List ℕ) (place : ℕ)
         → VouchesFor (verdict_of []) f hash place → ⊥ }
     ensures apart { (judge : Judge) (asked : List Question) (rows : List VerdictRow)

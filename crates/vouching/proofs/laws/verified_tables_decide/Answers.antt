@@ -4,7 +4,7 @@ use Rattle.signature_questions.specs.Tables.{row_of}
 use Rattle.std.proofs.Common.{[], ◌∷◌, map, refl}
 use Rattle.signature_questions.proofs.Admitted.{trusted}
 use Rattle.signature_questions.proofs.Chains.{chain_accepted}
-use Rattle.vouching.proofs.Backing.{admitted, one_apart, own_apart, own_rows}
+use Rattle.vouching.proofs.Backing.{accepting_row, admitted, one_apart, one_verified, own_apart, own_rows}
 use Rattle.vouching.proofs.Joining.{behind, behind_chain}
 use Rattle.vouching.proofs.laws.verified_tables_decide.Goals as goal
 
@@ -21,7 +21,7 @@ returns-clause-made c = λ judge f asked are apart. behind judge asked (map (row
 
 pub returns-clause-one : goal.returns-clause-one
 returns-clause-one c = λ judge f question are accepts.
-    behind judge (question ∷ []) (row_of judge question ∷ []) f are (own_rows judge (question ∷ [])) (one_apart question)
+    behind judge (question ∷ []) (accepting_row question ∷ []) f are (one_verified judge question accepts) (one_apart question)
 
 pub returns-clause-apart : goal.returns-clause-apart
 returns-clause-apart c = λ judge asked rows f verified own. record { verified = verified; apart = own_apart _ own }
