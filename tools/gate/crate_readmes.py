@@ -11,7 +11,8 @@ writes in each `CRATES/NAME/README.md` two parts from the sources:
 - below `## Example` the block ```rust: the file
   `CRATES/xtest_readme/src/of_NAME.rt` up to its first `#[test]`, without
   its `//!`, `ghost use` and `use std::test` (no module may have a library's
-  name, so the file is called `of_NAME`); of a library with exports for C the
+  name, so the file is called `of_NAME`); of a library with an example of its
+  own the file `CRATES/NAME/src/citing.rt`; of one with exports for C the
   block ```c: the file `CRATES/../bindings/c/example.c`;
 - between the lines `<!-- calls -->` and `<!-- /calls -->` the public calls of
   `CRATES/NAME/src` by file, with the names of their clauses, and the
@@ -354,6 +355,12 @@ def example_text(file):
     return "".join(uses) + "\n" * bool(uses) + text[start.start() :].rstrip() + "\n"
 
 
+def example_of(crate, crates):
+    """The file with the example of a crate: its own, if it has one."""
+    own = crate / "src" / "citing.rt"
+    return own if own.is_file() else crates / "xtest_readme" / "src" / f"of_{crate.name}.rt"
+
+
 def written(text, crate, crates):
     """The text of a README with both parts as the sources have them."""
     readme = crate / "README.md"
@@ -374,7 +381,9 @@ def written(text, crate, crates):
     if language == "c":
         shown = text_of_example(crates.parent / "bindings" / "c" / "example.c")
     else:
-        shown = example_text(crates / "xtest_readme" / "src" / f"of_{crate.name}.rt")
+        shown = example_text(example_of(crate, crates))
+        # an example in the crate itself names it as callers do
+        shown = shown.replace("use crate::", f"use {crate.name}::")
     lines[start + 1 : end] = shown.splitlines()
     return "\n".join(lines) + "\n"
 

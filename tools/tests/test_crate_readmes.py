@@ -223,6 +223,15 @@ class Readmes(unittest.TestCase):
         self.example.write_text(EXAMPLE.replace("One", "A"), encoding="utf-8")
         self.assertEqual(self.run_it("--check", str(self.crates))[0], 1)
 
+    def test_an_example_of_its_own(self):
+        self.readme.write_text(README, encoding="utf-8")
+        own = EXAMPLE.replace("use lib::", "use crate::").replace("One", "Its own")
+        self.assertNotEqual(own, EXAMPLE)
+        (self.source / "citing.rt").write_text(own, encoding="utf-8")
+        self.assertEqual(self.run_it(str(self.crates))[0], 0)
+        text = self.readme.read_text(encoding="utf-8")
+        self.assertIn("```rust\nuse lib::{\n    ListOf,\n};\n\n/// Its own list.\n", text)
+
     def test_a_library_without_a_readme(self):
         status, out, _ = self.run_it("--check", str(self.crates))
         self.assertEqual((status, out.splitlines()[0]), (1, "lib has no README.md"))

@@ -4,7 +4,9 @@ use Rattle.std.proofs.lemmas.List.{take_all}
 use Rattle.asn1_types.specs.declared.generalized_time.GeneralizedTime.{GeneralizedTime}
 use Rattle.program_frame.specs.DateWord.{IsDateWord}
 use Rattle.program_frame.specs.Options.{AreOptions, CheckOptions}
-use Rattle.pe_image.specs.Words.{AsksFor, AsksForNothing, Command}
+use Rattle.program_frame.specs.Commands.{AsksForNothing}
+use Rattle.pe_image.specs.Commands.{program}
+use Rattle.pe_image.specs.Words.{AsksFor, Command}
 
 -- the words after the first three, as in the code
 abbrev pub behind_three : {W : Type 0} → List W → List W
@@ -40,7 +42,7 @@ module _ (file table date_word : List ℕ) (option_words : List (List ℕ)) wher
       asked.date_is
 
   -- if those after it are no options, they request nothing
-  pub no_options : ((o : CheckOptions) → AreOptions option_words o → ⊥) → AsksForNothing Words
+  pub no_options : ((o : CheckOptions) → AreOptions option_words o → ⊥) → AsksForNothing program Words
   no_options none command asked = none command.options (options_in command asked)
 
   module _ (date : GeneralizedTime) (options : CheckOptions) where

@@ -1,7 +1,7 @@
 -- Promises, which public contracts cite: of the check `PeAnswer`, `ImageHash`, `RefusalName`,
 -- `Refusals`; of the program `Vouched`, `Words`.
 -- Rules, which the promises rest on: `ProgramPolicy`, `ListAnswer`, `Report`, `Commands`.
--- Inside, which no public contract cites: `HeldCommand`.
+-- Inside, which no public contract cites: `OwnedCommand`.
 pub mod PeAnswer
 pub mod ImageHash
 pub mod RefusalName

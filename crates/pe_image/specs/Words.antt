@@ -25,7 +25,3 @@ pub record AsksFor (words : List (List ℕ)) (command : Command) : Type 0 where
   pub words_are : words ≡ command.file ∷ command.table ∷ date_word ∷ option_words
   pub date_is : IsDateWord date_word command.date
   pub options_are : AreOptions option_words command.options
-
--- the words request nothing
-abbrev pub AsksForNothing : List (List ℕ) → Type 0
-AsksForNothing words = (command : Command) → AsksFor words command → ⊥

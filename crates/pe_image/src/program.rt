@@ -11,7 +11,7 @@ use crate::words::command_of;
 use program_frame::{KnownTable, Program, Shelf, Sink, run_by_table};
 use std::alloc::Global;
 
-/// Commands the signed program that the words FILE TABLE DATE and options name, with files of the
+/// Checks the signed program that the words FILE TABLE DATE and options name, with files of the
 /// shelf; writes one line to the sink if there is a result, and returns the exit status, one of the
 /// constants of `program_frame`.
 pub fn run<F: Shelf, O: Sink>(alloc: Global, words: &[String], shelf: &mut F, out: &mut O) -> u8

@@ -2,7 +2,9 @@
 
 ghost use Rattle.std.specs.Prelude.{◌≡◌, Some, map, MatchOption, option_map, string_bytes};
 ghost use Rattle.pe_image.specs.OwnedCommand.{command_held};
-ghost use Rattle.pe_image.specs.Words.{AsksFor, AsksForNothing, Command as AskedCommand};
+ghost use Rattle.program_frame.specs.Commands.{AsksForNothing};
+ghost use Rattle.pe_image.specs.Commands.{program};
+ghost use Rattle.pe_image.specs.Words.{AsksFor, Command as AskedCommand};
 
 use names_core::UtcDate;
 use program_frame::{CheckOptions, date_of, options_of};
@@ -20,7 +22,7 @@ pub(crate) struct Command<'a> {
 /// Parses the words FILE TABLE DATE and options. None exactly if they aren't these.
 pub(crate) fn command_of(words: &[String]) -> Option<Command<'_>>
     ensures asked { MatchOption result
-        (AsksForNothing (map string_bytes words.now))
+        (AsksForNothing program (map string_bytes words.now))
         (λ held. AsksFor (map string_bytes words.now) (command_held held)) }
     ensures only { (asked : AskedCommand) → AsksFor (map string_bytes words.now) asked
         → option_map command_held result ≡ Some asked }

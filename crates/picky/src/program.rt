@@ -3,7 +3,7 @@
 ghost use Rattle.std.specs.Prelude.{◌≡◌, ℕ, map, string_bytes};
 ghost use Rattle.demo_core.specs.Run as demonstration;
 ghost use Rattle.demo_core.specs.Words as demo_words;
-ghost use Rattle.picky_check.specs.Answer.{commands};
+ghost use Rattle.picky_check.specs.Commands.{program};
 ghost use Rattle.picky_check.specs.Vouched.{IsVouched};
 ghost use Rattle.program_frame.specs.Run.{IsRun};
 ghost use Rattle.program_frame.specs.Statuses as statuses;
@@ -26,7 +26,7 @@ pub fn run<F: Shelf, O: Sink>(alloc: Global, words: &[String], shelf: &mut F, ou
         → demonstration.IsRun count O.state out.old out.new result × (shelf.new ≡ shelf.old) }
     // What each status means for all other words, when it is returned, and what is read and written.
     ensures ends { demo_words.AsksForNothing (map string_bytes words.now)
-        → IsRun commands (map string_bytes words.now) F.state shelf.old shelf.new
+        → IsRun program (map string_bytes words.now) F.state shelf.old shelf.new
         (O.state out.old) (O.state out.new) result }
 {
     match count_of(words) {

@@ -17,7 +17,7 @@ use Rattle.x509_core.specs.declared.error.CertError.TheVariants as cert
 use Rattle.x509_core.specs.declared.validator.ChainChecks.{ChainChecks}
 use Rattle.program_frame.specs.declared.report.Report.{Report}
 use Rattle.program_frame.specs.declared.stop.Stop.{Stop}
-use Rattle.picky_check.specs.Answer.{IsCertificateAnswer}
+use Rattle.picky_check.specs.Commands.{IsCertificateAnswer}
 use Rattle.picky_check.specs.ChainAnswer.{IsChainJudged, IsChainAnswer, all_checks}
 use Rattle.x509_core.specs.OwnedCertificates.{AreKeptCertificates, IsFirstUnread}
 use Rattle.picky_check.specs.Report.{Answer, OfSignature, OfChain, IsOutOfMemory, reporting}

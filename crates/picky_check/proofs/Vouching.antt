@@ -16,7 +16,7 @@ use Rattle.authenticode_core.specs.declared.policy.Policy.{Policy}
 use Rattle.x509_core.specs.declared.error.CertError.{CertError}
 use Rattle.program_frame.specs.Options.{CheckOptions}
 use Rattle.picky_check.specs.Headline.{IsGivenList, IsVouchedFor, IsVouchedSignature}
-use Rattle.picky_check.specs.Answer.{IsAnswerTo, commands, table_in}
+use Rattle.picky_check.specs.Commands.{IsAnswerTo, program, table_in}
 use Rattle.program_frame.specs.ReadFiles.{HandsOut, total_length}
 use Rattle.picky_check.specs.ChainHeadline.{IsVouchedChain}
 use Rattle.program_frame.specs.Limits.{AreWholeFiles}
@@ -145,7 +145,7 @@ module _ (one_signed_data : (octets : List ℕ) (f g : SignedDataElements) → H
     vouched_for_command (Chain table date names) (OfSignature a) asked are is_table is_answer zero written =
         absurd (no_signature_for_chain table date names contents rows a is_answer)
 
-  pub vouched_for : (line : Line) → IsRunAnswer commands words shelf shelf_now line → line.status ≡ 0 → Appends held line.text held_now
+  pub vouched_for : (line : Line) → IsRunAnswer program words shelf shelf_now line → line.status ≡ 0 → Appends held line.text held_now
       → IsVouched words shelf shelf_now held held_now
   vouched_for line h zero written =
       let read = h.2 in

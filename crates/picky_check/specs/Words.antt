@@ -68,7 +68,3 @@ AsksFor words (Basic signature table hash) = IsBasic words signature table hash
 AsksFor words (Check signature table hash date options) =
     IsCheck words signature table hash date options
 AsksFor words (Chain table date certificates) = IsChain words table date certificates
-
--- the words are no command
-abbrev pub AsksForNothing : List (List ℕ) → Type 0
-AsksForNothing words = (command : Command) → AsksFor words command → ⊥

@@ -3,7 +3,7 @@
 ghost use Rattle.std.specs.Prelude.{◌≡◌, ◌≤◌, length, map};
 ghost use Rattle.program_frame.specs.Owned.{contents_held, options_held};
 ghost use Rattle.program_frame.specs.Reports.{Reports};
-ghost use Rattle.picky_check.specs.Answer.{IsAnswerTo, IsCertificateAnswer, checks};
+ghost use Rattle.picky_check.specs.Commands.{IsAnswerTo, IsCertificateAnswer, checks};
 ghost use Rattle.picky_check.specs.OwnedCommand.{command_held};
 ghost use Rattle.picky_check.specs.Policies.{check_policy};
 ghost use Rattle.picky_check.specs.Report.{Answer, reporting};

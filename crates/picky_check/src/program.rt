@@ -3,7 +3,7 @@
 ghost use Rattle.std.specs.Prelude.{◌≡◌, map, string_bytes};
 ghost use Rattle.program_frame.specs.Run.{IsRun};
 ghost use Rattle.program_frame.specs.Statuses as statuses;
-ghost use Rattle.picky_check.specs.Answer.{commands};
+ghost use Rattle.picky_check.specs.Commands.{program};
 ghost use Rattle.picky_check.specs.Vouched.{IsVouched};
 ghost use Rattle.picky_check.specs.Words.{Command};
 
@@ -20,7 +20,7 @@ pub fn run<F: Shelf, O: Sink>(alloc: Global, words: &[String], shelf: &mut F, ou
         → IsVouched (map string_bytes words.now) (F.state shelf.old) (F.state shelf.new)
         (O.state out.old).held (O.state out.new).held }
     // What each status means, and when it is returned.
-    ensures ends { IsRun commands (map string_bytes words.now) F.state shelf.old shelf.new
+    ensures ends { IsRun program (map string_bytes words.now) F.state shelf.old shelf.new
         (O.state out.old) (O.state out.new) result }
 {
     Commands { known: None }.run(alloc, words, shelf, out)
@@ -36,7 +36,7 @@ pub struct Commands<'a> {
 impl Program for Commands<'_> {
     ghost Asked = { Command };
 
-    ghost program = { commands };
+    ghost program = { program };
 
     ghost Acceptance = { IsVouched };
 

@@ -2,7 +2,9 @@
 
 ghost use Rattle.std.specs.Prelude.{◌≡◌, Some, None, map, IfOk, IfSome, IsErr, IsSome, MatchOption, option_map, string_bytes, ◌∷◌, codes, Ok};
 ghost use Rattle.picky_check.specs.OwnedCommand.{command_held};
-ghost use Rattle.picky_check.specs.Words.{AsksFor, AsksForNothing, Command as AskedCommand, asked_hash};
+ghost use Rattle.program_frame.specs.Commands.{AsksForNothing};
+ghost use Rattle.picky_check.specs.Commands.{program};
+ghost use Rattle.picky_check.specs.Words.{AsksFor, Command as AskedCommand, asked_hash};
 
 use crate::chain_files::ChainFiles;
 use names_core::UtcDate;
@@ -44,7 +46,7 @@ pub(crate) enum Command<'a> {
 /// Parses the words, by the table of commands. Nothing is allocated if they are no command.
 pub(crate) fn command_of(alloc: Global, words: &[String]) -> Result<Option<Command<'_>>, AllocError>
     ensures asked { IfOk result (λ asked. MatchOption asked
-        (AsksForNothing (map string_bytes words.now))
+        (AsksForNothing program (map string_bytes words.now))
         (λ held. AsksFor (map string_bytes words.now) (command_held held))) }
     ensures only { (asked : AskedCommand) → AsksFor (map string_bytes words.now) asked
         → IfOk result (λ held. option_map command_held held ≡ Some asked) }
@@ -65,7 +67,7 @@ pub(crate) fn command_of(alloc: Global, words: &[String]) -> Result<Option<Comma
 /// Parses the words after `basic`.
 fn basic_of(alloc: Global, words: &[String]) -> Result<Option<Command<'_>>, AllocError>
     ensures asked { IfOk result (λ asked. MatchOption asked
-        (AsksForNothing (codes "basic" ∷ map string_bytes words.now))
+        (AsksForNothing program (codes "basic" ∷ map string_bytes words.now))
         (λ held. AsksFor (codes "basic" ∷ map string_bytes words.now) (command_held held))) }
     ensures only { (asked : AskedCommand) → AsksFor (codes "basic" ∷ map string_bytes words.now) asked
         → IfOk result (λ held. option_map command_held held ≡ Some asked) }
@@ -88,7 +90,7 @@ fn basic_of(alloc: Global, words: &[String]) -> Result<Option<Command<'_>>, Allo
 /// Parses the words after `check`.
 fn check_of(alloc: Global, words: &[String]) -> Result<Option<Command<'_>>, AllocError>
     ensures asked { IfOk result (λ asked. MatchOption asked
-        (AsksForNothing (codes "check" ∷ map string_bytes words.now))
+        (AsksForNothing program (codes "check" ∷ map string_bytes words.now))
         (λ held. AsksFor (codes "check" ∷ map string_bytes words.now) (command_held held))) }
     ensures only { (asked : AskedCommand) → AsksFor (codes "check" ∷ map string_bytes words.now) asked
         → IfOk result (λ held. option_map command_held held ≡ Some asked) }
@@ -119,7 +121,7 @@ fn check_of(alloc: Global, words: &[String]) -> Result<Option<Command<'_>>, Allo
 /// Parses the words after `chain`.
 fn chain_of(words: &[String]) -> Option<Command<'_>>
     ensures asked { MatchOption result
-        (AsksForNothing (codes "chain" ∷ map string_bytes words.now))
+        (AsksForNothing program (codes "chain" ∷ map string_bytes words.now))
         (λ held. AsksFor (codes "chain" ∷ map string_bytes words.now) (command_held held)) }
     ensures only { (asked : AskedCommand) → AsksFor (codes "chain" ∷ map string_bytes words.now) asked
         → option_map command_held result ≡ Some asked }

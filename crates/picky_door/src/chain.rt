@@ -4,7 +4,7 @@ ghost use Rattle.std.specs.Prelude.{◌≡◌, ◌≤◌, ℕ, IfOk, List, Some,
 ghost use Rattle.door_frame.specs.Call.{IsCallOf};
 ghost use Rattle.door_frame.specs.Files.{lent_files};
 ghost use Rattle.door_frame.specs.Handle.{text_of};
-ghost use Rattle.picky_check.specs.Answer.{commands};
+ghost use Rattle.picky_check.specs.Commands.{program};
 ghost use Rattle.picky_door.specs.Chain.{chain_files};
 ghost use Rattle.picky_door.specs.Check.{IsVouchedCall};
 ghost use Rattle.program_frame.specs.Statuses as statuses;
@@ -34,7 +34,7 @@ pub extern "C" fn picky_chain_bytes<'a>(
     ensures vouched_for { result ≡ statuses.accepted → IsVouchedCall words.now
         (chain_files (Some table.now) certificates.now lengths.now) (take written.new line.new) }
     // What each status means, and when it is returned.
-    ensures called { IsCallOf commands words.now
+    ensures called { IsCallOf program words.now
         (chain_files (Some table.now) certificates.now lengths.now)
         (length line.old) (take written.new line.new) result }
 {
@@ -65,7 +65,7 @@ pub extern "C" fn picky_chain_with_table(
         (chain_files (text_of table.old.known) certificates.now lengths.now)
         (take written.new line.new) }
     // What each status means, and when it is returned.
-    ensures called { IsCallOf commands words.now
+    ensures called { IsCallOf program words.now
         (chain_files (text_of table.old.known) certificates.now lengths.now)
         (length line.old) (take written.new line.new) result }
 {

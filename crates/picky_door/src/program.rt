@@ -3,7 +3,7 @@
 ghost use Rattle.std.specs.Prelude.{◌≡◌, ◌≤◌, Some, drop, length, take};
 ghost use Rattle.door_frame.specs.Call.{IsCallOf};
 ghost use Rattle.door_frame.specs.Handle.{text_of};
-ghost use Rattle.pe_image.specs.Commands.{program as checks};
+ghost use Rattle.pe_image.specs.Commands.{program as program_check};
 ghost use Rattle.picky_door.specs.Program.{IsVouchedProgramCall, program_files};
 ghost use Rattle.program_frame.specs.Statuses as statuses;
 
@@ -31,7 +31,7 @@ pub extern "C" fn picky_pe_bytes(
     ensures vouched_for { result ≡ statuses.accepted → IsVouchedProgramCall words.now
         (program_files program.now (Some table.now) list.now) (take written.new line.new) }
     // What each status means, and when it is returned.
-    ensures called { IsCallOf checks words.now (program_files program.now (Some table.now) list.now)
+    ensures called { IsCallOf program_check words.now (program_files program.now (Some table.now) list.now)
         (length line.old) (take written.new line.new) result }
 {
     let files = [
@@ -73,7 +73,7 @@ pub extern "C" fn picky_pe_with_table<'a>(
     ensures vouched_for { result ≡ statuses.accepted → IsVouchedProgramCall words.now
         (program_files program.now (text_of table.old.known) list.now) (take written.new line.new) }
     // What each status means, and when it is returned.
-    ensures called { IsCallOf checks words.now
+    ensures called { IsCallOf program_check words.now
         (program_files program.now (text_of table.old.known) list.now)
         (length line.old) (take written.new line.new) result }
 {

@@ -15,7 +15,8 @@ use Rattle.program_frame.specs.Run.{IsRunAnswer}
 use Rattle.program_frame.specs.Shelf.{ShelfState}
 use Rattle.program_frame.specs.Sink.{Appends}
 use Rattle.trust_anchors.specs.AnchoredPath.{HasNoPath, IsAnchoredPath}
-use Rattle.trust_anchors.specs.Answer.{AreGiven, IsAnswerTo, IsSearchResult, certificates_in, code_anchor, program, report_line, reporting, status_of, table_in}
+use Rattle.trust_anchors.specs.Commands.{AreGiven, IsAnswerTo, IsSearchResult, certificates_in, code_anchor, program, table_in}
+use Rattle.trust_anchors.specs.Commands.{report_line, reporting, status_of}
 use Rattle.trust_anchors.specs.FirstPath.{IsFirstPath}
 use Rattle.program_frame.specs.Reports.{IsReportOf, Reports}
 use Rattle.trust_anchors.specs.Reported.{IsReportedPath}

@@ -3,7 +3,9 @@ use Rattle.std.proofs.Common.{◌≡◌, ℕ, ◌+◌, ◌-◌, ◌≤◌, List,
 use Rattle.std.proofs.lemmas.List.{take_all}
 use Rattle.asn1_types.specs.declared.generalized_time.GeneralizedTime.{GeneralizedTime}
 use Rattle.program_frame.specs.DateWord.{IsDateWord}
-use Rattle.trust_anchors.specs.Words.{AsksFor, AsksForNothing, IsNumberWord, Command, purpose_word}
+use Rattle.program_frame.specs.Commands.{AsksForNothing}
+use Rattle.trust_anchors.specs.Commands.{program}
+use Rattle.trust_anchors.specs.Words.{AsksFor, IsNumberWord, Command, purpose_word}
 use Rattle.trust_anchors.specs.declared.anchor.Purpose.{Purpose}
 
 -- the words after the first four, as in the code
@@ -47,7 +49,7 @@ module _ (table purpose_text date_text number_text : List ℕ) (certificates : L
       (sym (same_date command.table (purpose_word command.purpose) asked.date_word asked.number_word command.certificates asked.words_are)) asked.date_is
 
   -- without a number they are no command
-  pub no_number : ((number : ℕ) → IsNumberWord number_text number → ⊥) → AsksForNothing Words
+  pub no_number : ((number : ℕ) → IsNumberWord number_text number → ⊥) → AsksForNothing program Words
   no_number none command asked = none command.number (number_in command asked)
 
   -- they request one command

@@ -3,7 +3,7 @@ use Rattle.std.proofs.Common.{◌≡◌, ℕ, List, [], ◌∷◌, ◌++◌, len
 use Rattle.key_core.specs.Verifying.{Judge}
 use Rattle.x509_core.specs.OwnedCertificate.{KeptCertificate, kept_octets}
 use Rattle.x509_core.proofs.OwnedOctets.{kept_among, same_certificates}
-use Rattle.trust_anchors.specs.Answer.{HasUnread, IsAnswerTo, IsFoundAmong, IsPathOf, IsSearchResult, code_anchor}
+use Rattle.trust_anchors.specs.Commands.{HasUnread, IsAnswerTo, IsFoundAmong, IsPathOf, IsSearchResult, code_anchor}
 use Rattle.trust_anchors.specs.Words.{Command}
 use Rattle.trust_anchors.specs.declared.report.Answer.{Answer}
 use Rattle.trust_anchors.specs.declared.report.Answer.TheVariants.{Anchored, NoPath, Unread}

@@ -9,7 +9,7 @@ use Rattle.x509_core.specs.CertRefusals.{IsUnreadCert, unread}
 use Rattle.x509_core.specs.OwnedCertificate.{KeptCertificate, kept_octets}
 use Rattle.x509_core.specs.declared.error.CertError.{CertError}
 use Rattle.x509_core.specs.declared.error.CertError.TheVariants as errors
-use Rattle.trust_anchors.specs.Answer.{AreGiven, code_anchor}
+use Rattle.trust_anchors.specs.Commands.{AreGiven, code_anchor}
 use Rattle.trust_anchors.specs.Reading.{AppendsAnchors, AppendsRead, IsUnread}
 use Rattle.trust_anchors.specs.declared.anchor.Anchor.{Anchor}
 use Rattle.trust_anchors.specs.declared.reading.ReadError.{ReadError}

@@ -1,7 +1,7 @@
 -- Reading certificates, and why they aren't read.
 use Rattle.std.specs.Prelude.{◌≡◌, ◌++◌, ℕ, List, map}
 use Rattle.x509_core.specs.OwnedCertificate.{KeptCertificate, kept_octets}
-use Rattle.trust_anchors.specs.Answer.{HasUnread, code_anchor}
+use Rattle.trust_anchors.specs.Commands.{HasUnread, code_anchor}
 use Rattle.trust_anchors.specs.declared.anchor.Anchor.{Anchor}
 use Rattle.trust_anchors.specs.declared.reading.ReadError.{ReadError}
 use Rattle.trust_anchors.specs.declared.reading.ReadError.TheVariants as unread

@@ -7,7 +7,7 @@ use Rattle.program_frame.specs.Limits.{IsWholeFile, AreWholeFiles}
 use Rattle.program_frame.specs.ReadFiles.{HandsOut, total_length}
 use Rattle.program_frame.specs.Shelf.{ShelfState}
 use Rattle.program_frame.specs.Sink.{Appends}
-use Rattle.trust_anchors.specs.Answer.{AreGiven, IsPathOf}
+use Rattle.trust_anchors.specs.Commands.{AreGiven, IsPathOf}
 use Rattle.trust_anchors.specs.FirstPath.{IsFirstPath}
 use Rattle.trust_anchors.specs.PathText.{anchored_line}
 use Rattle.trust_anchors.specs.Words.{AsksFor, Command}

@@ -42,7 +42,3 @@ pub record AsksFor (words : List (List ℕ)) (command : Command) : Type 0 where
   pub number_is : IsNumberWord number_word command.number
   pub some : command.number + 1 ≤ length command.certificates
   pub most : length command.certificates ≤ command.number + 33
-
--- the words are no command
-abbrev pub AsksForNothing : List (List ℕ) → Type 0
-AsksForNothing words = (command : Command) → AsksFor words command → ⊥

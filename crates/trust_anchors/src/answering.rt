@@ -3,7 +3,7 @@
 ghost use Rattle.std.specs.Prelude.{◌≡◌, ◌≤◌, IfErr, IfOk, length};
 ghost use Rattle.program_frame.specs.Owned.{contents_held};
 ghost use Rattle.program_frame.specs.Reports.{Reports};
-ghost use Rattle.trust_anchors.specs.Answer.{IsAnswerTo, IsSearchResult, certificates_in, reporting, searches};
+ghost use Rattle.trust_anchors.specs.Commands.{IsAnswerTo, IsSearchResult, certificates_in, reporting, searches};
 ghost use Rattle.trust_anchors.specs.AnchoredPath.{IsAnchoredPath};
 ghost use Rattle.trust_anchors.specs.OwnedCommand.{command_held};
 ghost use Rattle.trust_anchors.specs.Words.{Command as AskedCommand, files_of};

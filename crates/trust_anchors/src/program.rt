@@ -3,7 +3,7 @@
 ghost use Rattle.std.specs.Prelude.{◌≡◌, map, string_bytes};
 ghost use Rattle.program_frame.specs.Run.{IsRun};
 ghost use Rattle.program_frame.specs.Statuses as statuses;
-ghost use Rattle.trust_anchors.specs.Answer.{program};
+ghost use Rattle.trust_anchors.specs.Commands.{program};
 ghost use Rattle.trust_anchors.specs.Reported.{IsReportedPath};
 
 use crate::words::command_of;

@@ -3,7 +3,7 @@
 ghost use Rattle.std.specs.Prelude.{◌≡◌, ◌≢◌, ◌+◌, ◌<◌, ◌++◌, ◌∷◌, [], List, length, map, IfErr, IfOk, OnOk};
 ghost use Rattle.x509_core.specs.OwnedCertificate.{KeptCertificate, kept_octets};
 ghost use Rattle.x509_core.specs.declared.error.CertError.TheVariants as errors;
-ghost use Rattle.trust_anchors.specs.Answer.{AreGiven, code_anchor};
+ghost use Rattle.trust_anchors.specs.Commands.{AreGiven, code_anchor};
 ghost use Rattle.trust_anchors.specs.Reading.{AppendsAnchors, AppendsRead, IsUnread};
 ghost use Rattle.trust_anchors.specs.declared.reading.ReadError.TheVariants as unread;
 

@@ -2,7 +2,7 @@
 
 ghost use Rattle.std.specs.Prelude.{◌≡◌, IfOk, string_bytes};
 ghost use Rattle.program_frame.specs.Reports.{IsReportOf};
-ghost use Rattle.trust_anchors.specs.Answer.{reporting};
+ghost use Rattle.trust_anchors.specs.Commands.{reporting};
 ghost use Rattle.trust_anchors.specs.PathText.{anchored_line};
 
 use crate::path::AnchoredPath;

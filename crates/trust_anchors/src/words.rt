@@ -2,7 +2,9 @@
 
 ghost use Rattle.std.specs.Prelude.{◌≡◌, ℕ, Some, map, MatchOption, option_map, string_bytes};
 ghost use Rattle.trust_anchors.specs.OwnedCommand.{command_held};
-ghost use Rattle.trust_anchors.specs.Words.{AsksFor, AsksForNothing, IsNumberWord, Command as AskedCommand, purpose_word};
+ghost use Rattle.program_frame.specs.Commands.{AsksForNothing};
+ghost use Rattle.trust_anchors.specs.Commands.{program};
+ghost use Rattle.trust_anchors.specs.Words.{AsksFor, IsNumberWord, Command as AskedCommand, purpose_word};
 ghost use Rattle.trust_anchors.specs.declared.anchor.Purpose.{Purpose as AskedPurpose};
 
 use crate::anchor::Purpose;
@@ -15,7 +17,7 @@ const MOST_IN_POOL: usize = 32;
 /// Parses the words. None exactly if they are no command.
 pub(crate) fn command_of(words: &[String]) -> Option<Command<'_>>
     ensures asked { MatchOption result
-        (AsksForNothing (map string_bytes words.now))
+        (AsksForNothing program (map string_bytes words.now))
         (λ held. AsksFor (map string_bytes words.now) (command_held held)) }
     ensures only { (asked : AskedCommand) → AsksFor (map string_bytes words.now) asked
         → option_map command_held result ≡ Some asked }

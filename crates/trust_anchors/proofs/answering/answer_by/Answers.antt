@@ -3,7 +3,7 @@ use Rattle.std.specs.Prelude.{string_bytes}
 use Rattle.std.proofs.lemmas.List.{length-map}
 use Rattle.std.proofs.lemmas.Result.{IfOk-weaker}
 use Rattle.program_frame.specs.Owned.{contents_held}
-use Rattle.trust_anchors.specs.Answer.{certificates_in}
+use Rattle.trust_anchors.specs.Commands.{certificates_in}
 use Rattle.trust_anchors.specs.OwnedCommand.{command_held}
 use Rattle.trust_anchors.proofs.Answered.{found_answer}
 use Rattle.trust_anchors.proofs.ReadFiles.{count_pool}

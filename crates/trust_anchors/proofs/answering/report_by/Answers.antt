@@ -1,7 +1,7 @@
 use Rattle.std.proofs.Common.{refl}
 use Rattle.std.proofs.lemmas.Result.{err_from_is_err_and}
 use Rattle.program_frame.specs.Owned.{contents_held}
-use Rattle.trust_anchors.specs.Answer.{certificates_in}
+use Rattle.trust_anchors.specs.Commands.{certificates_in}
 use Rattle.trust_anchors.specs.OwnedCommand.{command_held}
 use Rattle.trust_anchors.proofs.Answered.{answer_reports, memory_reports}
 use Rattle.trust_anchors.proofs.answering.report_by.Goals as goal

@@ -1,6 +1,6 @@
 use Rattle.std.proofs.Common.{◌∙◌, arith}
 use Rattle.program_frame.proofs.Parsing.{IsParsed-option}
-use Rattle.trust_anchors.specs.Answer.{program}
+use Rattle.trust_anchors.specs.Commands.{program}
 use Rattle.trust_anchors.specs.OwnedCommand.{command_held}
 use Rattle.trust_anchors.proofs.Answered.{reported_path}
 use Rattle.trust_anchors.proofs.program.run.Goals as goal

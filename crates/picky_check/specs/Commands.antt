@@ -43,5 +43,5 @@ checks = record {
 }
 
 -- the program
-abbrev pub commands : Program Command
-commands = by_table checks
+abbrev pub program : Program Command
+program = by_table checks

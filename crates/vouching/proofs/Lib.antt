@@ -1,0 +1,4 @@
+pub mod Backing
+pub mod Trusting
+pub mod Asking
+pub mod Joining
