@@ -2,7 +2,8 @@
 
 Most steps are issued by the step before, so that there are ancestors up to 20 deep.  The windows
 overlap the date, touch it, or miss it by a second; most parts are drawn so that they allow what is
-below, so that steps far down are accepted too.
+below, so that steps far down are accepted too.  Some are issued for a certification request, and some to
+the name of their issuer.
 """
 
 from random import Random
@@ -21,13 +22,15 @@ MOMENTS = [
 
 
 class Step(NamedTuple):
-    """An issuing: the step of the issuer, if it isn't a root, and what the certificate says."""
+    """An issuing: the step of the issuer, if it isn't a root, what the certificate says, and how it is asked for."""
 
     issuer: Optional[int]
     ca: bool
     path_length: Optional[int]
     first: str
     last: str
+    request: bool
+    same_name: bool
 
 
 def issuer_of(chance, index):
@@ -54,19 +57,23 @@ def window_of(chance, date, before, after):
     return chance.choice((*before, date)), chance.choice((*after, date))
 
 
-def drawn_history(chance):
+def asked_by(chance, issuer):
+    """Whether it is issued for a request, and to the issuer's name; a root is for neither."""
+    return issuer is not None and chance.random() < 0.3, issuer is not None and chance.random() < 0.2
+
+
+def drawn_history(chance, asking):
     """A date and the steps."""
     date, before, after = chance.choice(MOMENTS)
     count = chance.randint(1, MOST_STEPS)
     steps = []
     for index in range(count):
         first, last = window_of(chance, date, before, after)
-        steps.append(
-            Step(issuer_of(chance, index), chance.choice(FLAGS), length_of(chance, count - index - 2), first, last)
-        )
+        issuer, flag, length = issuer_of(chance, index), chance.choice(FLAGS), length_of(chance, count - index - 2)
+        steps.append(Step(issuer, flag, length, first, last, *asked_by(asking, issuer)))
     return date, steps
 
 
 def histories():
-    chance = Random(46)
-    return [drawn_history(chance) for _ in range(HISTORIES)]
+    chance, asking = Random(46), Random(69)
+    return [drawn_history(chance, asking) for _ in range(HISTORIES)]

@@ -5,8 +5,9 @@ Usage:
 
     python3 tools/golden/histories_vectors.py --count
 
-prints how many steps there are and how many are valid, by the number of their ancestors.  The histories are those of
-`drawn_histories`, and `history_judge` says which of their steps are valid.
+prints how many steps there are and how many are valid, by the number of their ancestors, then those issued for a
+request and those issued to their issuer's name.  The histories are those of `drawn_histories`, and `history_judge` says
+which of their steps are valid.
 """
 
 import sys
@@ -27,7 +28,8 @@ def shown(value):
 
 def step_word(step):
     flag = "ca" if step.ca else "end"
-    return ",".join((shown(step.issuer), flag, shown(step.path_length), f"{step.first}Z", f"{step.last}Z"))
+    asked = "request" if step.request else "key", "issuer" if step.same_name else "own"
+    return ",".join((shown(step.issuer), flag, shown(step.path_length), f"{step.first}Z", f"{step.last}Z", *asked))
 
 
 def row(date, steps):
@@ -42,16 +44,20 @@ def vectors():
     return Vectors.of((row(*history), line(*history)) for history in histories())
 
 
+def kinds_of(step):
+    return ["request"] * step.request + ["same name"] * step.same_name
+
+
 def counted():
-    """Print the steps and the valid ones, by the number of their ancestors."""
+    """Print the steps and the valid ones, by the number of their ancestors, and by how they were asked for."""
     steps, valid = Counter(), Counter()
     for date, history in histories():
-        for index in range(len(history)):
-            depth = len(ancestors(history, index))
-            steps[depth] += 1
-            valid[depth] += is_valid(history, index, date)
-    for depth in sorted(steps):
-        print(depth, steps[depth], valid[depth])
+        for index, step in enumerate(history):
+            for kind in (len(ancestors(history, index)), *kinds_of(step)):
+                steps[kind] += 1
+                valid[kind] += is_valid(history, index, date)
+    for kind in sorted(steps, key=str):
+        print(kind, steps[kind], valid[kind])
     return 0
 
 

@@ -1,5 +1,6 @@
 -- What a table accepts, the verifier behind it accepts.
-use Rattle.std.proofs.Common.{◌≡◌, ◌∙◌, ◌⊎◌, Bool, true, false, cond, ℕ, List, [], ◌∷◌, Option, Some, None, inl, inr, refl, sym, ap, subst, find, option_map, map}
+use Rattle.std.proofs.Common.{◌≡◌, ◌∙◌, ◌⊎◌, Bool, true, false, cond, ℕ, List, [], ◌∷◌, Option}
+use Rattle.std.proofs.Common.{Some, None, inl, inr, refl, sym, ap, subst, find, option_map, map}
 use Rattle.std.specs.Option.{unwrap_or}
 use Rattle.std.specs.Prelude.{Contains}
 use Rattle.key_core.specs.Verifying.{Judge}

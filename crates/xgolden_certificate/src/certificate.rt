@@ -8,7 +8,7 @@
 mod both;
 mod details;
 pub mod measure;
-mod owned;
+mod stored;
 mod view;
 
 use std::alloc::Global;
@@ -41,7 +41,7 @@ fn print_one(alloc: Global, call: &str, octets: &[u8], line: &mut Line) {
         "structure" => print_structure(alloc, octets, line),
         "view" => print_view(octets, line),
         "both" => both::print(alloc, octets, line),
-        "kept" => kept::print(alloc, octets, line),
+        "kept" => stored::print(alloc, octets, line),
         _ => line.no_call(),
     }
 }
@@ -49,8 +49,8 @@ fn print_one(alloc: Global, call: &str, octets: &[u8], line: &mut Line) {
 fn print_two(alloc: Global, call: &str, one: &[u8], other: &[u8], line: &mut Line) {
     match call {
         "unlike" => print_equal(alloc, one, other, line),
-        "parent" => kept::print_parent(alloc, one, other, line),
-        "written" => kept::print_written(alloc, one, other, line),
+        "parent" => stored::print_parent(alloc, one, other, line),
+        "written" => stored::print_written(alloc, one, other, line),
         _ => line.no_call(),
     }
 }

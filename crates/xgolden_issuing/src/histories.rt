@@ -3,13 +3,15 @@
 //! A vector has a date, and the steps of a history in their order, each as
 //!
 //! ```text
-//! ISSUER,FLAG,LENGTH,FIRST,LAST
+//! ISSUER,FLAG,LENGTH,FIRST,LAST,HOW,NAME
 //! ```
 //!
 //! ISSUER is the index of an earlier step, counted from 0, LENGTH a path length, `-` for none. FLAG
-//! is `ca` or `end`. FIRST, LAST and the date are the contents of a GeneralizedTime. The
-//! certificate of each step is built, written and read, and validated with all its ancestors. The
-//! line has 1 for each step whose certificate is accepted, 0 for each other.
+//! is `ca` or `end`. FIRST, LAST and the date are the contents of a GeneralizedTime. HOW is
+//! `request` if the certificate is issued for a certification request, `key` if for a name and a
+//! key, and NAME is `issuer` if the name is the issuer's, else `own`. The certificate of each step
+//! is built, written and read, and validated with all its ancestors. The line has 1 for each step
+//! whose certificate is accepted, 0 for each other.
 
 mod certificates;
 mod steps;

@@ -1,14 +1,20 @@
 //! Callers that cite a clause, or a law, of the libraries for a promise of their own.
 
-ghost use Rattle.std.specs.Prelude.{◌≡◌, ℕ, List, Option, Result, IfOk, MatchOption, MatchResult};
+ghost use Rattle.std.specs.Prelude.{◌≡◌, ◌∷◌, ℕ, ℤ, List, Option, Result, IfOk, MatchOption, MatchResult};
 ghost use Rattle.asn1_types.specs.declared.generalized_time.GeneralizedTime.{GeneralizedTime};
 ghost use Rattle.authenticode_core.specs.Basic.{HasSignedData};
 ghost use Rattle.authenticode_core.specs.Trusted.{IsAnswer};
 ghost use Rattle.authenticode_core.specs.declared.accepted.Accepted.{Accepted};
 ghost use Rattle.authenticode_core.specs.declared.policy.Policy.{Policy};
+ghost use Rattle.authenticode_parts.specs.Carried.{AreCarried, elements_of};
+ghost use Rattle.authenticode_signature.specs.HistorySignature.{all_checks_at};
+ghost use Rattle.authenticode_signature.specs.KeptAncestors.{AreKeptOf, IsDecidedBy, IsWithAncestors};
+ghost use Rattle.authenticode_signature.specs.MadeFile.{IsMadeSignature};
 ghost use Rattle.cms_types.specs.SignedDataElements.{SignedDataElements};
+ghost use Rattle.key_core.specs.Signing.{IsKeyPair};
 ghost use Rattle.key_core.specs.Verifying.{Judge};
-ghost use Rattle.pe_core.specs.Bound.{table_of};
+ghost use Rattle.key_types.specs.declared.key_info.SubjectPublicKeyInfo.{SubjectPublicKeyInfo};
+ghost use Rattle.pe_core.specs.Bound.{HaveSameParts, bound_octets, table_of};
 ghost use Rattle.pe_image.specs.PeAnswer.{IsPeAnswer};
 ghost use Rattle.pe_image.specs.declared.error.PeCheckError.{PeCheckError};
 ghost use Rattle.signature_questions.specs.Agreement.{Agree};
@@ -20,19 +26,29 @@ ghost use Rattle.trust_anchors.specs.FirstPath.{IsFirstPath};
 ghost use Rattle.trust_anchors.specs.declared.anchor.Anchor.{Anchor};
 ghost use Rattle.trust_anchors.specs.declared.anchor.Purpose.{Purpose};
 ghost use Rattle.trust_anchors.specs.declared.path.AnchoredPath.{AnchoredPath};
+ghost use Rattle.x509_core.specs.History.{IssuingStep, History, HasStep, IsDuring};
+ghost use Rattle.x509_core.specs.Link.{HasKey};
 ghost use Rattle.x509_core.specs.OwnedCertificate.{KeptCertificate};
 ghost use Rattle.x509_core.specs.declared.error.CertError.TheVariants as cert_errors;
+ghost use Rattle.x509_types.specs.CertificateElements.{CertificateElements};
 
 use crate::of_trust_anchors::{LEAF, certificate};
 use authenticode_core::{Accepted, CheckError, Policy, check_wincert};
+use authenticode_signature::{
+    AuthenticodeSignature, Pkcs7, check_made, encode_signature, histories_decide_made_signatures,
+};
 use cms_types::SignedData;
+use demo_core::private_key_of;
 use der_core::{DerError, Structure, values_are_read_again};
+use key_core::PrivateKey;
+use pe_core::{PeError, PeImage, bound_octets_fix_the_image};
 use pe_image::tables_decide_programs;
-use sig_core::VerdictTable;
+use sig_core::{DemoScheme, Scheme, ShaVariant, VerdictTable};
 use signature_questions::{questions_decide, questions_decide_chains, shared_tables_decide};
 use std::alloc::Global;
 use std::test::Fail;
 use trust_anchors::links_decide_paths;
+use wincert_core::CertificateType;
 use x509_core::{Cert, CertError};
 
 /// The certificate, read again from its octets. Only out of memory is an error.
@@ -102,6 +118,75 @@ fn questions_decide_paths()
     links_decide_paths();
 }
 
+/// The signature file of a program with this SHA-256, by the first certificate and its key. The
+/// other certificates are its ancestors.
+fn file_with_ancestors<S: Scheme>(
+    alloc: Global,
+    certificates: &[Cert],
+    digest: &[u8],
+    key: &PrivateKey,
+    scheme: &S,
+) -> Result<Vec<u8>, CheckError>
+    ensures { IfOk result (λ file. (history : History) (issued : List KeptCertificate) (index : ℕ)
+        (ancestors : List ℕ) (cert : KeptCertificate) (parents : List KeptCertificate)
+        (info : SubjectPublicKeyInfo) → certificates.now ≡ cert ∷ parents
+        → IsWithAncestors (S.judge scheme.now) history issued index ancestors cert parents
+        → HasKey cert.elements info → IsKeyPair (S.pair scheme.now) key.now info
+        → (carried : List CertificateElements)
+        × AreCarried (elements_of (cert ∷ parents)) (cert.elements ∷ carried)
+        × IsMadeSignature (S.judge scheme.now) cert.elements carried file.items digest.now) }
+{
+    let Ok(bag) = Pkcs7::of_certificates(alloc, certificates) else {
+        return Err(CheckError::Memory);
+    };
+    let sha = ShaVariant::SHA2_256;
+    let made = AuthenticodeSignature::new(alloc, &bag, digest, sha, key, None, scheme)?;
+    // the law; the call does nothing
+    histories_decide_made_signatures();
+    encode_signature(alloc, &made, CertificateType::WinCertTypePkcsSignedData)
+}
+
+/// Signs a program, and checks the file: with all checks at a date it is accepted exactly where the
+/// history allows each of the kept ancestors then, out of memory aside.
+fn sign_and_check<S: Scheme>(
+    alloc: Global,
+    certificates: &[Cert],
+    digest: &[u8],
+    key: &PrivateKey,
+    policy: &Policy<'_>,
+    scheme: &S,
+) -> Result<Result<Accepted, CheckError>, CheckError>
+    ensures { IfOk result (λ answer. (history : History) (issued : List KeptCertificate)
+        (index : ℕ) (step : IssuingStep) (ancestors : List ℕ) (cert : KeptCertificate)
+        (parents : List KeptCertificate) (info : SubjectPublicKeyInfo) (date : GeneralizedTime)
+        (now : ℤ) → certificates.now ≡ cert ∷ parents
+        → IsWithAncestors (S.judge scheme.now) history issued index ancestors cert parents
+        → HasStep history index step → IsDuring step date
+        → HasKey cert.elements info → IsKeyPair (S.pair scheme.now) key.now info
+        → policy.entry.now ≡ all_checks_at date now digest.now
+        → (kept : List ℕ) × AreKeptOf history ancestors kept
+        × IsDecidedBy history date kept answer) }
+{
+    let file = file_with_ancestors(alloc, certificates, digest, key, scheme)?;
+    // the law; the call does nothing
+    histories_decide_made_signatures();
+    Ok(check_made(alloc, &file, policy, scheme))
+}
+
+/// Parses two programs. If the same octets are signed of them, they differ in the checksum, the
+/// table's entry and the table alone.
+fn images_of_two<'a>(
+    first: &'a [u8],
+    second: &'a [u8],
+) -> Result<(PeImage<'a>, PeImage<'a>), PeError>
+    ensures { IfOk result (λ _. bound_octets first.now ≡ bound_octets second.now
+        → HaveSameParts first.now second.now) }
+{
+    // the law; the call does nothing
+    bound_octets_fix_the_image();
+    Ok((PeImage::parse(first)?, PeImage::parse(second)?))
+}
+
 #[test]
 fn values_are_the_same_again(rt: HostRuntime) -> Result<(), Fail> {
     let alloc = rt.alloc();
@@ -120,6 +205,17 @@ fn laws_are_cited(rt: HostRuntime) -> Result<(), Fail> {
     let policy = Policy::new(rt.alloc());
     let refused = check_by_shared_table(rt.alloc(), b"1234567".as_slice(), &policy, &table);
     assert!(rt; matches!(&refused, Err(CheckError::Win(_))));
+    Ok(())
+}
+
+#[test]
+fn laws_on_files_are_cited(rt: HostRuntime) -> Result<(), Fail> {
+    let (key, policy) = (private_key_of(rt.alloc(), 0)?, Policy::new(rt.alloc()));
+    let scheme = DemoScheme::new();
+    let refused = sign_and_check(rt.alloc(), &[], &[0; 32], &key, &policy, &scheme);
+    assert!(rt; matches!(&refused, Err(CheckError::Authenticode(_))));
+    let octets = b"1234567".as_slice();
+    assert!(rt; images_of_two(octets, octets).err() == Some(PeError::NotMz));
     Ok(())
 }
 

@@ -1,6 +1,6 @@
 //! The results for octets as an owned value, as a borrowed view, and as a stored certificate.
 
-use crate::certificate::{details, kept, view};
+use crate::certificate::{details, stored, view};
 use crate::shown::{print_digest, print_refusal};
 use der_core::{Structure, exact_elem};
 use std::alloc::{AllocError, Global};
@@ -82,6 +82,6 @@ fn print_kept(alloc: Global, octets: &[u8], line: &mut Line) {
 
 fn print_asked(alloc: Global, cert: &Cert, octets: &[u8], line: &mut Line) {
     let mut fields = Line::new(alloc);
-    kept::print_certificate(alloc, cert, octets, &mut fields);
+    stored::print_certificate(alloc, cert, octets, &mut fields);
     print_digest(fields.into_text(), line);
 }

@@ -12,7 +12,8 @@ returns-then-run-eq-ACCEPTED g c = λ done.
     let checked : c.run-then-run-eq-ACCEPTED.result ≡ 0 = eqb-true _ 0 done in
     let ask = c.asked_runs_are_listed.ensures asks c.args.shelf.now c.run.new.shelf (g.O.Sink.state c.args.lines.now) (g.O.Sink.state c.run.new.out)
     (subst
-    (λ (status : ℕ). IsRun program asks g.F.Shelf.state c.args.shelf.now c.run.new.shelf (g.O.Sink.state c.args.lines.now) (g.O.Sink.state c.run.new.out) status)
+    (λ (status : ℕ). IsRun program asks g.F.Shelf.state c.args.shelf.now c.run.new.shelf (g.O.Sink.state c.args.lines.now)
+    (g.O.Sink.state c.run.new.out) status)
     listed c.run.ensures.ends) in
     let run = c.run-then-run-eq-ACCEPTED.ensures.vouched_for checked in (
       c.run.new.shelf,
