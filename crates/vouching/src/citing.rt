@@ -9,8 +9,8 @@ ghost use Rattle.vouching.specs.Verified.{AreToldApart, AreVerified};
 ghost use Rattle.vouching.specs.VouchedBy.{IsVouchedBy, rows_of};
 
 use crate::{asked_runs_are_listed, listed_runs_are_vouched_for};
-use program_frame::{ACCEPTED, MemShelf, MemSink, Shelf, Sink};
-use std::alloc::{AllocError, Global};
+use program_frame::{ACCEPTED, Shelf, Sink};
+use std::alloc::Global;
 use std::test::Fail;
 
 /// Asks for the questions about SIG, then checks SIG by a table. If both are accepted, SIG is vouched
@@ -43,13 +43,13 @@ fn ask_and_check<F: Shelf, O: Sink>(
 #[test]
 fn asks_and_checks(rt: HostRuntime) -> Result<(), Fail> {
     let alloc = rt.alloc();
-    let mut shelf = MemShelf::new(alloc);
+    let mut shelf = program_frame::MemShelf::new(alloc);
     shelf.add("sig", &hex::decode(alloc, FILE)?)?;
     shelf.add("table", TABLE.as_bytes())?;
     let asks = words_of(alloc, &["sig"])?;
     let words = words_of(alloc, &["basic", "sig", "table", HASH])?;
-    let mut lines = MemSink::with_room(alloc, 2000)?;
-    let mut out = MemSink::with_room(alloc, 100)?;
+    let mut lines = program_frame::MemSink::with_room(alloc, 2000)?;
+    let mut out = program_frame::MemSink::with_room(alloc, 100)?;
     assert!(rt; ask_and_check(alloc, &asks, &words, &mut shelf, &mut lines, &mut out));
     // the one line begins as the row does
     let row = TABLE.trim_end().as_bytes();
@@ -57,7 +57,7 @@ fn asks_and_checks(rt: HostRuntime) -> Result<(), Fail> {
     Ok(())
 }
 
-fn words_of(alloc: Global, texts: &[&str]) -> Result<Vec<String>, AllocError> {
+fn words_of(alloc: Global, texts: &[&str]) -> Result<Vec<String>, Fail> {
     let mut words = Vec::new(alloc);
     for text in texts {
         words.push(String::from_str(alloc, text)?)?;
