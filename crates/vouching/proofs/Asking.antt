@@ -1,5 +1,5 @@
 -- A run of `picky_ask` whose status is 0 has written the lines of the questions.
-use Rattle.std.proofs.Common.{◌≡◌, ℕ, List, [], ◌∷◌, Option, inl, inr, refl, sym, ap, subst, ◌∙◌, arith}
+use Rattle.std.proofs.Common.{◌≡◌, ℕ, List, [], ◌∷◌, Option, inl, inr, subst, arith}
 use Rattle.program_frame.specs.Commands.{Line}
 use Rattle.program_frame.specs.Limits.{AreWholeFiles}
 use Rattle.program_frame.specs.ReadFiles.{HandsOut, total_length}

@@ -1,6 +1,6 @@
 -- What a table accepts, the verifier behind it accepts.
-use Rattle.std.proofs.Common.{◌≡◌, ◌∙◌, ◌⊎◌, Bool, true, false, cond, ℕ, List, [], ◌∷◌, Option}
-use Rattle.std.proofs.Common.{Some, None, inl, inr, refl, sym, ap, subst, find, option_map, map}
+use Rattle.std.proofs.Common.{◌≡◌, ◌∙◌, Bool, true, false, cond, ℕ, List, [], ◌∷◌}
+use Rattle.std.proofs.Common.{Some, inl, inr, refl, sym, ap, find, option_map, map}
 use Rattle.std.specs.Option.{unwrap_or}
 use Rattle.std.specs.Prelude.{Contains}
 use Rattle.key_core.specs.Verifying.{Judge}
@@ -15,7 +15,7 @@ use Rattle.signature_questions.specs.Question.{Question, verdict_on}
 use Rattle.signature_questions.specs.Tables.{digests_of, row_of}
 use Rattle.signature_questions.proofs.Members.{first_or_later, first_there, later_there, none_there}
 use Rattle.sig_core.specs.declared.algorithm.SigAlg.{SigAlg}
-use Rattle.vouching.specs.Verified.{AreToldApart, AreVerified, HaveOwnDigests, IsInPlay, IsVerified, StandsBehind}
+use Rattle.vouching.specs.Verified.{AreToldApart, AreVerified, HaveOwnDigests, IsInPlay, StandsBehind}
 
 -- an accepting row that names the signature
 abbrev Accepting : List VerdictRow → SignatureDigests → Type 0

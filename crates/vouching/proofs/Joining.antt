@@ -1,11 +1,11 @@
 -- The lines about the octets that a run read are those of the questions that its check may ask.
 use Rattle.std.proofs.Common.{◌≡◌, ℕ, List, ◌∷◌, Option, Some, None, inl, inr, refl, sym, subst, ◌∙◌}
-use Rattle.std.specs.Prelude.{Contains, IsSome, map}
+use Rattle.std.specs.Prelude.{Contains, IsSome}
 use Rattle.cms_types.specs.SignedDataElements.{SignedDataElements}
 use Rattle.key_core.specs.Verifying.{Judge}
 use Rattle.pe_core.specs.Bound.{table_of}
 use Rattle.sig_core.specs.declared.verdict_row.VerdictRow.{VerdictRow}
-use Rattle.x509_core.specs.OwnedCertificate.{KeptCertificate, kept_octets}
+use Rattle.x509_core.specs.OwnedCertificate.{KeptCertificate}
 use Rattle.x509_core.specs.OwnedCertificates.{AreKeptCertificates}
 use Rattle.x509_core.proofs.OwnedOctets.{same_certificates}
 use Rattle.authenticode_core.specs.Basic.{HasSignedData}

@@ -1,12 +1,8 @@
 -- What a run accepts is what is trusted by its table, and by the verifier behind that.
-use Rattle.std.proofs.Common.{◌≡◌, ℕ, List, Option, Some, Ok, inl, inr, refl, subst}
+use Rattle.std.proofs.Common.{ℕ, List, Option, Some, inl, inr, refl}
 use Rattle.key_core.specs.Verifying.{Judge}
-use Rattle.pe_core.specs.Bound.{table_of}
 use Rattle.sig_core.specs.VerdictTable.{verdict_of}
-use Rattle.sig_core.specs.declared.verdict_row.VerdictRow.{VerdictRow}
 use Rattle.authenticode_core.specs.Trusted.{IsTrusted}
-use Rattle.authenticode_core.specs.declared.accepted.Accepted.{Accepted}
-use Rattle.authenticode_core.specs.declared.policy.Policy.{Policy}
 use Rattle.program_frame.specs.Shelf.{ShelfState}
 use Rattle.x509_core.specs.Chain.{IsAccepted}
 use Rattle.signature_questions.specs.Asked.{IsOfChain, IsQuestion}
@@ -20,7 +16,7 @@ use Rattle.picky_check.specs.Policies.{basic_policy, check_policy}
 use Rattle.picky_check.specs.Vouched.{IsVouched}
 use Rattle.pe_image.specs.PeAnswer.{policy_for}
 use Rattle.pe_image.specs.ProgramPolicy.{program_policy}
-use Rattle.pe_image.specs.Vouched.{IsVouchedImage, IsVouchedProgram}
+use Rattle.pe_image.specs.Vouched.{IsVouchedProgram}
 use Rattle.vouching.specs.Verified.{StandsBehind}
 use Rattle.vouching.specs.VouchedBy.{IsProgramVouchedBy, IsVouchedBy, MayAsk, rows_of}
 use Rattle.vouching.proofs.Backing.{admitted}

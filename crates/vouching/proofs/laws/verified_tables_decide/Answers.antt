@@ -1,7 +1,7 @@
 use Rattle.sig_core.specs.VerdictTable.{verdict_of}
 use Rattle.signature_questions.specs.Asked.{IsOfChain, IsQuestion}
 use Rattle.signature_questions.specs.Tables.{row_of}
-use Rattle.std.proofs.Common.{[], ◌∷◌, map, refl}
+use Rattle.std.proofs.Common.{[], ◌∷◌, map}
 use Rattle.signature_questions.proofs.Admitted.{trusted}
 use Rattle.signature_questions.proofs.Chains.{chain_accepted}
 use Rattle.vouching.proofs.Backing.{accepting_row, admitted, one_apart, one_verified, own_apart, own_rows}
